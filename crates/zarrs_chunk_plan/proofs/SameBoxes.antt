@@ -3,9 +3,9 @@ use Rattle.std.proofs.Common.{◌≡◌, ◌↔◌, ◌∙◌, ℕ, ◌+◌, ◌
 use Rattle.zarrs_chunk_base.specs.ArraySubset.{AreWithin, Box, IsBox, IsEmptyBox, IsInside}
 use Rattle.zarrs_chunk_base.proofs.Boxes.{within_lengths}
 use Rattle.zarrs_chunks.specs.Walks.{chunks_in, counted_from}
-use Rattle.zarrs_chunk_plan.proofs.Between.{none_below}
-use Rattle.zarrs_chunk_plan.proofs.Plans.{empty_or_some, not_empty_if_inside}
-use Rattle.zarrs_chunk_plan.proofs.Written.{first_within}
+use Rattle.zarrs_chunk_plan.proofs.shares.Between.{none_below}
+use Rattle.zarrs_chunk_plan.proofs.read.Plans.{empty_or_some, not_empty_if_inside}
+use Rattle.zarrs_chunk_plan.proofs.counts.Written.{first_within}
 
 -- two ranges with the same numbers, of which there are some
 same_ranges : (a n b m i : ℕ) → a ≤ i → i < a + n → ((j : ℕ) → ((a ≤ j) × (j < a + n)) ↔ ((b ≤ j) × (j < b + m))) → (a ≡ b) × (n ≡ m)

@@ -7,9 +7,9 @@ use Rattle.zarrs_chunk_base.specs.ArraySubset.{AreWithin}
 use Rattle.zarrs_chunk_base.specs.Greatest.{greatest}
 use Rattle.zarrs_chunk_plan.specs.Counts.{product}
 use Rattle.zarrs_chunk_plan.specs.Region.{EndWithin}
-use Rattle.zarrs_chunk_plan.specs.declared.bytes.ByteRanges.{ByteRanges}
-use Rattle.zarrs_chunk_plan.specs.declared.bytes.MemoryOrder.{MemoryOrder}
-use Rattle.zarrs_chunk_plan.specs.declared.bytes.MemoryOrder.TheVariants.{C, F}
+use Rattle.zarrs_chunk_plan.specs.declared.bytes.ranges.ByteRanges.{ByteRanges}
+use Rattle.zarrs_chunk_plan.specs.declared.bytes.ranges.MemoryOrder.{MemoryOrder}
+use Rattle.zarrs_chunk_plan.specs.declared.bytes.ranges.MemoryOrder.TheVariants.{C, F}
 
 -- a list of a number for each dimension, the outermost first: row-major ("C"), or column-major ("F"), where the first dimension is the innermost
 abbrev pub in_order : MemoryOrder → List ℕ → List ℕ

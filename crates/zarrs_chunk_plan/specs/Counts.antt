@@ -6,7 +6,7 @@ use Rattle.zarrs_chunk_base.specs.ArraySubset.{Box, IsEmptyBox, IsInside}
 use Rattle.zarrs_chunk_base.specs.Dimension.{Dimension}
 use Rattle.zarrs_chunk_parts.specs.Plan.{HasElement}
 use Rattle.zarrs_chunk_plan.specs.Region.{Group, MovesTo, copies_of}
-use Rattle.zarrs_chunk_plan.specs.declared.counts.Counts.{Counts}
+use Rattle.zarrs_chunk_plan.specs.declared.counts.of_plans.Counts.{Counts}
 use Rattle.zarrs_chunk_parts.specs.declared.part.Part.{Part}
 
 -- so many lists of numbers have a property: they are those of one list, in which none stands twice

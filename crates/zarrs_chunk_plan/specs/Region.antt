@@ -10,8 +10,8 @@ use Rattle.zarrs_chunk_axes.specs.InBounds.{AreBelow}
 use Rattle.zarrs_chunks.specs.Walks.{chunks_in, counted_from}
 use Rattle.zarrs_chunk_parts.specs.Plan.{IsPart, IsPlan, Meets}
 use Rattle.zarrs_chunk_parts.specs.declared.part.Part.{Part}
-use Rattle.zarrs_chunk_plan.specs.declared.region_error.RegionError.{RegionError}
-use Rattle.zarrs_chunk_plan.specs.declared.region_error.RegionError.TheVariants.{Region, Target, At, PastSource, PastTarget}
+use Rattle.zarrs_chunk_plan.specs.declared.copy.region_error.RegionError.{RegionError}
+use Rattle.zarrs_chunk_plan.specs.declared.copy.region_error.RegionError.TheVariants.{Region, Target, At, PastSource, PastTarget}
 
 -- a chunk of the target with the elements that it takes, and the parts of the source's chunks that have them
 abbrev pub Group : Type 0

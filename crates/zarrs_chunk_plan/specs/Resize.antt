@@ -8,11 +8,11 @@ use Rattle.zarrs_chunk_base.specs.Dimension.{Dimension, Holds, InBox, IsShape, a
 use Rattle.zarrs_chunk_axes.specs.InBounds.{AreBelow}
 use Rattle.zarrs_chunk_parts.specs.Plan.{Meets}
 use Rattle.zarrs_chunk_plan.specs.Rechunking.{array_box}
-use Rattle.zarrs_chunk_plan.specs.declared.changed.ChangedChunks.{ChangedChunks}
-use Rattle.zarrs_chunk_plan.specs.declared.resize.Change.{Change}
-use Rattle.zarrs_chunk_plan.specs.declared.resize.Change.TheVariants.{Delete, Keep, New, Rewrite}
-use Rattle.zarrs_chunk_plan.specs.declared.resize.ChunkChange.{ChunkChange}
-use Rattle.zarrs_chunk_plan.specs.declared.resize.Held.{Held}
+use Rattle.zarrs_chunk_plan.specs.declared.resize.changed.ChangedChunks.{ChangedChunks}
+use Rattle.zarrs_chunk_plan.specs.declared.resize.plan.Change.{Change}
+use Rattle.zarrs_chunk_plan.specs.declared.resize.plan.Change.TheVariants.{Delete, Keep, New, Rewrite}
+use Rattle.zarrs_chunk_plan.specs.declared.resize.plan.ChunkChange.{ChunkChange}
+use Rattle.zarrs_chunk_plan.specs.declared.resize.plan.Held.{Held}
 
 -- An index below both array sizes lies in the same chunk of either. So it is of grids that one configuration makes.
 pub record IsResized (before after : Dimension) : Type 0 where

@@ -1,7 +1,7 @@
 -- Shares of a list: intervals of it that are equally long, up to one.
 -- Source: this library's own.
 use Rattle.std.specs.Prelude.{ℕ, ◌+◌, ◌-◌, ◌*◌, ◌/◌, List, drop, length, take}
-use Rattle.zarrs_chunk_plan.specs.declared.share.Share.{Share}
+use Rattle.zarrs_chunk_plan.specs.declared.shares.share.Share.{Share}
 
 -- how many of so many come before the share with this number: its part of all, rounded down
 abbrev pub before_share : (number of all : ℕ) → ℕ

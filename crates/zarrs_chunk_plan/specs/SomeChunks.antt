@@ -5,7 +5,7 @@ use Rattle.std.specs.List.{AllZip}
 use Rattle.zarrs_chunk_base.specs.ArraySubset.{Box}
 use Rattle.zarrs_chunk_base.specs.Greatest.{greatest}
 use Rattle.zarrs_chunks.specs.Walks.{chunks_in}
-use Rattle.zarrs_chunk_plan.specs.declared.numbered_chunks.SomeChunks.{SomeChunks}
+use Rattle.zarrs_chunk_plan.specs.declared.shares.numbered_chunks.SomeChunks.{SomeChunks}
 
 -- How many chunks lie in the box, as far as a number counts them; and of these the chunks from the one with the number `first` on, at most so many,
 -- in row-major order.

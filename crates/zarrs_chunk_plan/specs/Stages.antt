@@ -12,8 +12,8 @@ use Rattle.zarrs_chunk_axes.specs.RowMajor.{IsBefore}
 use Rattle.zarrs_chunk_plan.specs.Counts.{AreFew, product}
 use Rattle.zarrs_chunk_parts.specs.Plan.{Meets}
 use Rattle.zarrs_chunk_plan.specs.Rechunking.{Group, IsRechunking, all_chunks_box, array_box, copies_of}
-use Rattle.zarrs_chunk_plan.specs.declared.stages_error.StagesError.{StagesError}
-use Rattle.zarrs_chunk_plan.specs.declared.stages_error.StagesError.TheVariants.{ArrayShapes, ManyChunks, ManyShapes}
+use Rattle.zarrs_chunk_plan.specs.declared.two_stages.stages_error.StagesError.{StagesError}
+use Rattle.zarrs_chunk_plan.specs.declared.two_stages.stages_error.StagesError.TheVariants.{ArrayShapes, ManyChunks, ManyShapes}
 
 -- no chunk that holds an element of the array is longer than this, along any dimension
 abbrev pub NoneIsLonger : List Dimension → List ℕ → Type 0

@@ -15,7 +15,7 @@ use Rattle.zarrs_chunk_parts.specs.Plan.{Meets}
 use Rattle.zarrs_chunk_plan.specs.Rechunking.{AreTargets, Group}
 use Rattle.zarrs_chunk_plan.specs.Region.{AreMovedInto, moved}
 use Rattle.zarrs_chunk_plan.specs.SomeCopies.{AreSomeGroups}
-use Rattle.zarrs_chunk_plan.specs.declared.chunk_copies.Copies.{Copies}
+use Rattle.zarrs_chunk_plan.specs.declared.copy.chunk_copies.Copies.{Copies}
 use Rattle.zarrs_chunk_plan.specs.seen.Copies.{CanMove, IsAboutCopies, first_of, target_of, targets_to_come}
 use Rattle.zarrs_chunk_questions.specs.Pages.{count_of, is_more, page_tree}
 use Rattle.zarrs_chunk_questions.specs.declared.plan_trees.PlanOf.{PlanOf}

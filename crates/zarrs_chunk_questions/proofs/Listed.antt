@@ -5,7 +5,7 @@ use Rattle.zarrs_chunk_base.specs.ArraySubset.{Box}
 use Rattle.zarrs_chunk_base.specs.Greatest.{greatest}
 use Rattle.zarrs_chunks.specs.Walks.{chunks_in}
 use Rattle.zarrs_chunk_plan.specs.SomeChunks.{AreSomeChunks}
-use Rattle.zarrs_chunk_plan.specs.declared.numbered_chunks.SomeChunks.{SomeChunks}
+use Rattle.zarrs_chunk_plan.specs.declared.shares.numbered_chunks.SomeChunks.{SomeChunks}
 use Rattle.zarrs_chunk_questions.proofs.SomeItems.{all_wanted}
 
 -- what holds of each holds of those taken, and of those behind them

@@ -16,9 +16,9 @@ use Rattle.zarrs_chunk_base.specs.Dimension.{Dimension}
 use Rattle.zarrs_chunk_plan.specs.Counted.{counted as counted_up_to}
 use Rattle.zarrs_chunk_plan.specs.Rechunking.{Group}
 use Rattle.zarrs_chunk_plan.specs.Region.{shifted}
-use Rattle.zarrs_chunk_plan.specs.declared.bytes.ByteRanges.{ByteRanges}
-use Rattle.zarrs_chunk_plan.specs.declared.counts.Counts.{Counts}
-use Rattle.zarrs_chunk_plan.specs.declared.numbered_parts.SomeParts.{SomeParts}
+use Rattle.zarrs_chunk_plan.specs.declared.bytes.ranges.ByteRanges.{ByteRanges}
+use Rattle.zarrs_chunk_plan.specs.declared.counts.of_plans.Counts.{Counts}
+use Rattle.zarrs_chunk_plan.specs.declared.read.numbered_parts.SomeParts.{SomeParts}
 use Rattle.zarrs_chunk_questions.specs.Answers.{IsAnswer, IsArrayAnswer, IsBoxAnswer, IsGridAnswer, IsNumbersAnswer}
 use Rattle.zarrs_chunk_questions.specs.Bytes.{ranges_tree}
 use Rattle.zarrs_chunk_questions.specs.Counts.{counts_tree, line_number_tree}

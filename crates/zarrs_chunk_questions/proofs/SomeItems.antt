@@ -20,7 +20,7 @@ use Rattle.zarrs_chunk_keys.specs.KeyKinds.{IsEncodingIn}
 use Rattle.zarrs_chunks.specs.Walks.{chunks_in}
 use Rattle.zarrs_chunk_parts.specs.Plan.{IsPart}
 use Rattle.zarrs_chunk_plan.specs.SomeParts.{AreSomeParts}
-use Rattle.zarrs_chunk_plan.specs.declared.numbered_parts.SomeParts.{SomeParts}
+use Rattle.zarrs_chunk_plan.specs.declared.read.numbered_parts.SomeParts.{SomeParts}
 use Rattle.zarrs_chunk_questions.specs.Pages.{AnswersPartsOf, IsPartsAnswer, IsSomePartsAnswer, first_of, is_more, page_tree}
 use Rattle.zarrs_chunk_questions.specs.Trees.{box_of}
 use Rattle.zarrs_chunk_questions.specs.Pages.{part_tree}

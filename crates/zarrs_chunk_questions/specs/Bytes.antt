@@ -5,7 +5,7 @@ use Rattle.serde_json.specs.Data.{Data, member, no_members, object}
 use Rattle.zarrs_chunk_base.specs.ArraySubset.{IsBox}
 use Rattle.zarrs_chunk_base.specs.Json.{size_tree}
 use Rattle.zarrs_chunk_plan.specs.Bytes.{FindsRanges}
-use Rattle.zarrs_chunk_plan.specs.declared.bytes.ByteRanges.{ByteRanges}
+use Rattle.zarrs_chunk_plan.specs.declared.bytes.ranges.ByteRanges.{ByteRanges}
 use Rattle.zarrs_chunk_questions.specs.Question.{BytesAsked}
 use Rattle.zarrs_chunk_questions.specs.Trees.{box_of, numbers_tree, or_null}
 

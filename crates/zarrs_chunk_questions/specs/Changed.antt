@@ -5,7 +5,7 @@ use Rattle.serde_json.specs.Data.{Data, member, no_members, object}
 use Rattle.zarrs_chunk_base.specs.Grid.{Grid}
 use Rattle.zarrs_chunks.specs.GridKinds.{GridKind, IsGridIn}
 use Rattle.zarrs_chunk_plan.specs.Resize.{AreChangedChunks}
-use Rattle.zarrs_chunk_plan.specs.declared.changed.ChangedChunks.{ChangedChunks}
+use Rattle.zarrs_chunk_plan.specs.declared.resize.changed.ChangedChunks.{ChangedChunks}
 use Rattle.zarrs_chunk_questions.specs.Trees.{numbers_tree}
 
 -- ---- the form

@@ -13,7 +13,7 @@ use Rattle.zarrs_chunk_plan.specs.Counts.{AreCopyCounts, product}
 use Rattle.zarrs_chunk_plan.specs.Rechunking.{array_box}
 use Rattle.zarrs_chunk_plan.specs.Region.{AreTargets, Group, IsCopy, moved}
 use Rattle.zarrs_chunk_plan.specs.Shares.{before_share}
-use Rattle.zarrs_chunk_plan.specs.declared.counts.Counts.{Counts}
+use Rattle.zarrs_chunk_plan.specs.declared.counts.of_plans.Counts.{Counts}
 use Rattle.zarrs_chunk_questions.specs.Pages.{IsRechunkingAnswer}
 use Rattle.zarrs_chunk_questions.specs.Question.{Lists, ShareAsked, Target}
 use Rattle.zarrs_chunk_questions.specs.Trees.{numbers_tree, or_null}

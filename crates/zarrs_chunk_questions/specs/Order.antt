@@ -3,8 +3,8 @@
 use Rattle.std.specs.Prelude.{ℕ, if◌then◌else◌, List, Option, Some, None, bytes_eq, codes, option_and_then}
 use Rattle.serde_json.specs.Data.{Data, string}
 use Rattle.serde_json.specs.Find.{as_str}
-use Rattle.zarrs_chunk_plan.specs.declared.bytes.MemoryOrder.{MemoryOrder}
-use Rattle.zarrs_chunk_plan.specs.declared.bytes.MemoryOrder.TheVariants.{C, F}
+use Rattle.zarrs_chunk_plan.specs.declared.bytes.ranges.MemoryOrder.{MemoryOrder}
+use Rattle.zarrs_chunk_plan.specs.declared.bytes.ranges.MemoryOrder.TheVariants.{C, F}
 
 -- the text of an order, the order that a text says, and how it is written
 abbrev pub order_text : MemoryOrder → List ℕ

@@ -17,7 +17,7 @@ use Rattle.zarrs_chunks.specs.Walks.{box_at, boxed, chunks_of}
 use Rattle.zarrs_chunk_plan.specs.Rechunking.{Group, all_chunks_box, array_box}
 use Rattle.zarrs_chunk_plan.specs.SomeCopies.{AreSomeGroups}
 use Rattle.zarrs_chunk_plan.specs.SomeParts.{AnswersNone, AnswersSome}
-use Rattle.zarrs_chunk_plan.specs.declared.numbered_parts.SomeParts.{SomeParts}
+use Rattle.zarrs_chunk_plan.specs.declared.read.numbered_parts.SomeParts.{SomeParts}
 use Rattle.zarrs_chunk_parts.specs.declared.part.Part.{Part}
 use Rattle.zarrs_chunk_questions.specs.Question.{Items, Lists, Target}
 use Rattle.zarrs_chunk_questions.specs.Trees.{Says, box_of, box_tree, numbers_tree}

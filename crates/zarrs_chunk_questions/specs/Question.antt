@@ -5,8 +5,8 @@ use Rattle.std.specs.Option.{ok_or}
 use Rattle.serde_json.specs.Data.{Data}
 use Rattle.serde_json.specs.Find.{as_object, as_str, get}
 use Rattle.zarrs_chunk_base.specs.Json.{edge_of, list_of, pair_of, size_of}
-use Rattle.zarrs_chunk_plan.specs.declared.bytes.MemoryOrder.{MemoryOrder}
-use Rattle.zarrs_chunk_plan.specs.declared.bytes.MemoryOrder.TheVariants.{C}
+use Rattle.zarrs_chunk_plan.specs.declared.bytes.ranges.MemoryOrder.{MemoryOrder}
+use Rattle.zarrs_chunk_plan.specs.declared.bytes.ranges.MemoryOrder.TheVariants.{C}
 use Rattle.zarrs_chunk_questions.specs.Calls.{IsNamed}
 use Rattle.zarrs_chunk_questions.specs.Order.{order_in}
 use Rattle.zarrs_chunk_questions.specs.Reading.{Reading, in_form, missing, no_call, not_object, optional_in, required, required_in, then}

@@ -2,7 +2,7 @@
 ghost use Rattle.std.specs.Prelude.{◌≡◌, IfOk, MatchResult};
 ghost use Rattle.serde_json.specs.View.{view};
 ghost use Rattle.zarrs_chunk_base.specs.Refusal.{OrMemory};
-ghost use Rattle.zarrs_chunk_plan.specs.declared.bytes.MemoryOrder.{MemoryOrder};
+ghost use Rattle.zarrs_chunk_plan.specs.declared.bytes.ranges.MemoryOrder.{MemoryOrder};
 ghost use Rattle.zarrs_chunk_questions.specs.Bytes.{IsBytesAnswer, ranges_tree as tree_of_ranges};
 ghost use Rattle.zarrs_chunk_questions.specs.Order.{order_in, order_tree};
 ghost use Rattle.zarrs_chunk_questions.specs.Question.{bytes_in, order_or_c};

@@ -6,7 +6,7 @@ use Rattle.serde_json.specs.Data.{Data}
 use Rattle.serde_json.specs.Find.{get}
 use Rattle.zarrs_chunk_base.specs.ArraySubset.{Box}
 use Rattle.zarrs_chunk_base.specs.Json.{IsJsonOf}
-use Rattle.zarrs_chunk_plan.specs.declared.share.Share.{Share}
+use Rattle.zarrs_chunk_plan.specs.declared.shares.share.Share.{Share}
 use Rattle.documents.specs.Stored.{Stored}
 use Rattle.programs.specs.chunkplan.Document.{Document, HasFlag, HasWanted, AsksForLinesOfCopy, IsDocument, IsTask, Task, Wanted, copy_to, counts_wanted}
 use Rattle.programs.specs.chunkplan.Document.{HasOrder, lines_wanted, read_of, rechunk_by_source, rechunk_to, rechunk_within, resize_to}

@@ -6,7 +6,7 @@ use Rattle.std.specs.Str.{IsUtf8}
 use Rattle.zarrs_chunk_base.specs.Dimension.{Dimension}
 use Rattle.zarrs_chunk_base.specs.StoreKey.{EndsInSlash}
 use Rattle.zarrs_chunk_plan.specs.StoredChunks.{IsOfArray}
-use Rattle.zarrs_chunk_plan.specs.declared.stored_chunks.StoredChunks.{StoredChunks}
+use Rattle.zarrs_chunk_plan.specs.declared.copy.stored_chunks.StoredChunks.{StoredChunks}
 use Rattle.zarrs_chunk_plan.specs.seen.StoredChunks.{Knows}
 use Rattle.programs.specs.chunkplan.Keys.{AreForeign, AreKeys, IsFirstNoText, IsKeyOfTarget, behind_first, empty_line, foreign_json, foreign_lines}
 use Rattle.programs.specs.chunkplan.Keys.{key_line, no_line, unended}

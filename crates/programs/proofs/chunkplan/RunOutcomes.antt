@@ -5,7 +5,7 @@ use Rattle.std.proofs.Common.{⊎_elim}
 use Rattle.serde_json.specs.Data.{Data}
 use Rattle.zarrs_chunk_base.specs.ArraySubset.{Box}
 use Rattle.zarrs_chunk_base.specs.Dimension.{Dimension}
-use Rattle.zarrs_chunk_plan.specs.declared.region_error.RegionError.{RegionError}
+use Rattle.zarrs_chunk_plan.specs.declared.copy.region_error.RegionError.{RegionError}
 use Rattle.streams.specs.Streams.{IsReadToEnd, Streams}
 use Rattle.programs.specs.chunkplan.Document.{Document, Wanted}
 use Rattle.programs.specs.chunkplan.DocumentFault.{HasBoxFault, HasWantedFault, IsCopyingFault, IsFormFault, IsInputFault}

@@ -6,7 +6,7 @@ use Rattle.json.specs.Print.{print}
 use Rattle.json.specs.Tree.{json_tokens}
 use Rattle.zarrs_chunk_keys.specs.Numeral.{IsNumeral}
 use Rattle.zarrs_chunk_plan.specs.Counts.{product}
-use Rattle.zarrs_chunk_plan.specs.declared.counts.Counts.{Counts}
+use Rattle.zarrs_chunk_plan.specs.declared.counts.of_plans.Counts.{Counts}
 use Rattle.programs.specs.chunkplan.Line.{numbers_json}
 use Rattle.programs.specs.declared.chunkplan.counting.StagesCounts.{StagesCounts}
 

@@ -14,7 +14,7 @@ use Rattle.zarrs_chunk_plan.specs.Counted.{counted}
 use Rattle.zarrs_chunk_plan.specs.Rechunking.{Group}
 use Rattle.zarrs_chunk_plan.specs.Shares.{before_share, share_of}
 use Rattle.zarrs_chunk_plan.specs.StoredChunks.{IsListed, IsOfArray}
-use Rattle.zarrs_chunk_plan.specs.declared.share.Share.{Share}
+use Rattle.zarrs_chunk_plan.specs.declared.shares.share.Share.{Share}
 use Rattle.programs.specs.chunkplan.Document.{HasFlag}
 use Rattle.programs.specs.chunkplan.Line.{group_line, line_of, lines_from}
 use Rattle.programs.specs.declared.chunkplan.line.Order.TheVariants.{Target}

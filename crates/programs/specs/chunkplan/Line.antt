@@ -11,13 +11,13 @@ use Rattle.zarrs_chunk_plan.specs.Rechunking.{Group}
 use Rattle.zarrs_chunk_plan.specs.Region.{shifted}
 use Rattle.zarrs_chunk_plan.specs.Shares.{before_share, share_of}
 use Rattle.zarrs_chunk_plan.specs.Strided.{Strided, ranges_of}
-use Rattle.zarrs_chunk_plan.specs.declared.bytes.MemoryOrder.{MemoryOrder}
+use Rattle.zarrs_chunk_plan.specs.declared.bytes.ranges.MemoryOrder.{MemoryOrder}
 use Rattle.zarrs_chunk_parts.specs.declared.part.Part.{Part}
-use Rattle.zarrs_chunk_plan.specs.declared.resize.Change.{Change}
-use Rattle.zarrs_chunk_plan.specs.declared.resize.Change.TheVariants.{Delete, Keep, New, Rewrite}
-use Rattle.zarrs_chunk_plan.specs.declared.resize.ChunkChange.{ChunkChange}
-use Rattle.zarrs_chunk_plan.specs.declared.resize.Held.{Held}
-use Rattle.zarrs_chunk_plan.specs.declared.share.Share.{Share}
+use Rattle.zarrs_chunk_plan.specs.declared.resize.plan.Change.{Change}
+use Rattle.zarrs_chunk_plan.specs.declared.resize.plan.Change.TheVariants.{Delete, Keep, New, Rewrite}
+use Rattle.zarrs_chunk_plan.specs.declared.resize.plan.ChunkChange.{ChunkChange}
+use Rattle.zarrs_chunk_plan.specs.declared.resize.plan.Held.{Held}
+use Rattle.zarrs_chunk_plan.specs.declared.shares.share.Share.{Share}
 use Rattle.zarrs_chunk_questions.specs.Order.{order_text}
 use Rattle.programs.specs.chunkplan.Document.{RangesWanted}
 use Rattle.streams.specs.OneLine.{line_of as one_line}

@@ -12,8 +12,8 @@ use Rattle.zarrs_chunks.specs.Subsets.{HasNoHome}
 use Rattle.zarrs_chunk_plan.specs.Rechunking.{Group, all_chunks_box, array_box}
 use Rattle.zarrs_chunk_plan.specs.Region.{IsRegionFault}
 use Rattle.zarrs_chunk_plan.specs.Stages.{FindsShape, IsBoundFault, IsStagesFault}
-use Rattle.zarrs_chunk_plan.specs.declared.copies_error.CopiesError.TheVariants.{Chunks}
-use Rattle.zarrs_chunk_plan.specs.declared.region_error.RegionError.{RegionError}
+use Rattle.zarrs_chunk_plan.specs.declared.copy.copies_error.CopiesError.TheVariants.{Chunks}
+use Rattle.zarrs_chunk_plan.specs.declared.copy.region_error.RegionError.{RegionError}
 use Rattle.documents.specs.Stored.{IsCreateFault, IsStored, Stored}
 use Rattle.programs.specs.chunkplan.Document.{Document, IsDocument, RangesWanted, copy_to, read_of, rechunk_by_source, rechunk_to}
 use Rattle.programs.specs.chunkplan.Document.{Wanted, counts_wanted, lines_wanted, rechunk_within, resize_to}

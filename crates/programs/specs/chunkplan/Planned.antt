@@ -15,10 +15,10 @@ use Rattle.zarrs_chunk_plan.specs.Rechunking.{AreTargets, Group, IsRechunking, a
 use Rattle.zarrs_chunk_plan.specs.Region.{AnyChunk, IsRegionCopy, moved}
 use Rattle.zarrs_chunk_plan.specs.Resize.{IsResizePlan}
 use Rattle.zarrs_chunk_plan.specs.Stages.{FindsShape, HoldAtMost, IsLargest}
-use Rattle.zarrs_chunk_plan.specs.declared.counts.Counts.{Counts}
+use Rattle.zarrs_chunk_plan.specs.declared.counts.of_plans.Counts.{Counts}
 use Rattle.zarrs_chunk_parts.specs.declared.part.Part.{Part}
-use Rattle.zarrs_chunk_plan.specs.declared.resize.ChunkChange.{ChunkChange}
-use Rattle.zarrs_chunk_plan.specs.declared.share.Share.{Share}
+use Rattle.zarrs_chunk_plan.specs.declared.resize.plan.ChunkChange.{ChunkChange}
+use Rattle.zarrs_chunk_plan.specs.declared.shares.share.Share.{Share}
 use Rattle.documents.specs.Stored.{IsStored, Stored}
 use Rattle.programs.specs.chunkplan.CountsLine.{IsCountsLine, IsStagesLine}
 use Rattle.programs.specs.chunkplan.Document.{Document, IsDocument, RangesWanted, Wanted, copy_to, counts_wanted, lines_wanted, read_of}

@@ -2,8 +2,8 @@
 use Rattle.std.specs.Prelude.{Bool, true, false}
 use Rattle.zarrs_chunk_base.specs.declared.refusal.Refusal.{Refusal}
 use Rattle.zarrs_chunk_base.specs.declared.refusal.Refusal.TheVariants as refusal
-use Rattle.zarrs_chunk_plan.specs.declared.region_error.RegionError.{RegionError}
-use Rattle.zarrs_chunk_plan.specs.declared.region_error.RegionError.TheVariants as region
+use Rattle.zarrs_chunk_plan.specs.declared.copy.region_error.RegionError.{RegionError}
+use Rattle.zarrs_chunk_plan.specs.declared.copy.region_error.RegionError.TheVariants as region
 use Rattle.documents.specs.declared.document_fault.DocumentFault.{DocumentFault}
 use Rattle.documents.specs.declared.document_fault.DocumentFault.TheVariants as document
 use Rattle.documents.specs.declared.stored.CreateFault.{CreateFault}

@@ -8,7 +8,7 @@ ghost use Rattle.zarrs_chunk_plan.specs.Counted.{counted};
 ghost use Rattle.zarrs_chunk_plan.specs.Rechunking.{Group};
 ghost use Rattle.zarrs_chunk_plan.specs.Resize.{IsUsed};
 ghost use Rattle.zarrs_chunk_parts.specs.declared.part.Part.{Part as PartValue};
-ghost use Rattle.zarrs_chunk_plan.specs.declared.resize.ChunkChange.{ChunkChange as ChangeValue};
+ghost use Rattle.zarrs_chunk_plan.specs.declared.resize.plan.ChunkChange.{ChunkChange as ChangeValue};
 ghost use Rattle.zarrs_chunk_plan.specs.seen.Changes.{AreChangesToCome, CanChange, all_changes, changes_to_come};
 ghost use Rattle.zarrs_chunk_plan.specs.seen.Copies.{all_targets, region_of};
 ghost use Rattle.programs.specs.chunkplan.Line.{group_line, lines_from, resize_lines};

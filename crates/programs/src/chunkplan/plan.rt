@@ -9,7 +9,7 @@ ghost use Rattle.zarrs_chunk_plan.specs.Rechunking.{Group, IsRechunking, all_chu
 ghost use Rattle.zarrs_chunk_plan.specs.Region.{IsRegionCopy};
 ghost use Rattle.zarrs_chunk_plan.specs.Resize.{AreResized, IsResizePlan};
 ghost use Rattle.zarrs_chunk_parts.specs.declared.part.Part.{Part as PartValue};
-ghost use Rattle.zarrs_chunk_plan.specs.declared.resize.ChunkChange.{ChunkChange as ChangeValue};
+ghost use Rattle.zarrs_chunk_plan.specs.declared.resize.plan.ChunkChange.{ChunkChange as ChangeValue};
 ghost use Rattle.zarrs_chunk_plan.specs.seen.Copies.{all_targets, region_of, targets_to_come};
 ghost use Rattle.documents.specs.Stored.{IsStored, stored_of};
 ghost use Rattle.programs.specs.chunkplan.CountsLine.{IsCountsLine};

@@ -1,7 +1,7 @@
 //! The byte ranges that a document wants in the lines of a read.
 ghost use Rattle.std.specs.Prelude.{◌≡◌, ◌⊎◌, MatchResult, codes, option_map};
 ghost use Rattle.serde_json.specs.View.{view};
-ghost use Rattle.zarrs_chunk_plan.specs.declared.bytes.MemoryOrder.TheVariants.{C};
+ghost use Rattle.zarrs_chunk_plan.specs.declared.bytes.ranges.MemoryOrder.TheVariants.{C};
 ghost use Rattle.zarrs_chunk_questions.specs.Order.{order_in};
 ghost use Rattle.programs.specs.chunkplan.Document.{HasOr, HasRanges, most_in, ranges_asked_of};
 ghost use Rattle.programs.specs.chunkplan.DocumentFault.{HasFormFault, HasRangesFault};

@@ -5,7 +5,7 @@ use Rattle.zarrs_chunk_base.specs.ArraySubset.{Box}
 use Rattle.zarrs_chunk_base.specs.Dimension.{Dimension}
 use Rattle.zarrs_chunk_parts.specs.declared.part.Part.{Part}
 use Rattle.zarrs_chunk_plan.specs.SomeParts.{AreSomeParts}
-use Rattle.zarrs_chunk_plan.specs.declared.numbered_parts.SomeParts.{SomeParts}
+use Rattle.zarrs_chunk_plan.specs.declared.read.numbered_parts.SomeParts.{SomeParts}
 use Rattle.zarrs_chunk_prepared.specs.LookedUp.{IsCoverOf}
 use Rattle.zarrs_chunk_batches.specs.Batch.{list_at}
 use Rattle.zarrs_chunk_batches.specs.declared.structs.PartBuffers.{PartBuffers}

@@ -7,10 +7,10 @@ use Rattle.zarrs_chunk_axes.specs.InBounds.{AreBelow}
 use Rattle.zarrs_chunks.specs.Walks.{Gives}
 use Rattle.zarrs_chunk_plan.specs.Rechunking.{array_box}
 use Rattle.zarrs_chunk_plan.specs.Resize.{IsChange, IsKept, IsUsed}
-use Rattle.zarrs_chunk_plan.specs.declared.chunk_changes.Changes.{Changes}
-use Rattle.zarrs_chunk_plan.specs.declared.resize.Change.{Change}
-use Rattle.zarrs_chunk_plan.specs.declared.resize.Change.TheVariants.{Delete, Keep, New, Rewrite}
-use Rattle.zarrs_chunk_plan.specs.declared.resize.ChunkChange.{ChunkChange}
+use Rattle.zarrs_chunk_plan.specs.declared.resize.chunk_changes.Changes.{Changes}
+use Rattle.zarrs_chunk_plan.specs.declared.resize.plan.Change.{Change}
+use Rattle.zarrs_chunk_plan.specs.declared.resize.plan.Change.TheVariants.{Delete, Keep, New, Rewrite}
+use Rattle.zarrs_chunk_plan.specs.declared.resize.plan.ChunkChange.{ChunkChange}
 use Rattle.zarrs_chunk_plan.specs.seen.ChunksBetween.{chunks_between}
 use Rattle.zarrs_chunk_plan.specs.seen.Outside.{chunks_of_boxes}
 

@@ -3,7 +3,7 @@ use Rattle.std.specs.Prelude.{◌≡◌, ◌≢◌, ℕ, List, [], map, Option, 
 use Rattle.std.specs.declared.alloc.AllocError.{AllocError}
 use Rattle.smallvec.specs.SmallVec.{SmallVec}
 use Rattle.zarrs_chunks.specs.Walks.{Gives, chunks_in, counted_from}
-use Rattle.zarrs_chunk_plan.specs.declared.chunks_between.ChunksBetween.{ChunksBetween}
+use Rattle.zarrs_chunk_plan.specs.declared.shares.chunks_between.ChunksBetween.{ChunksBetween}
 use Rattle.zarrs_chunk_plan.specs.seen.Between.{lists_between}
 
 -- the chunks that are still to come, counted from the first one of the box; and as they are

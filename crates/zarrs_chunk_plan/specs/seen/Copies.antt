@@ -9,12 +9,12 @@ use Rattle.zarrs_chunks.specs.Subsets.{IsCover}
 use Rattle.zarrs_chunks.specs.Walks.{Gives, chunks_in}
 use Rattle.zarrs_chunk_parts.specs.Plan.{IsPart}
 use Rattle.zarrs_chunk_plan.specs.Region.{AreMovedInto, Group, LiesIn, shifted}
-use Rattle.zarrs_chunk_plan.specs.declared.chunk_copies.ChunkCopies.{ChunkCopies}
-use Rattle.zarrs_chunk_plan.specs.declared.chunk_copies.Copies.{Copies}
-use Rattle.zarrs_chunk_plan.specs.declared.copies_error.CopiesError.{CopiesError}
-use Rattle.zarrs_chunk_plan.specs.declared.copies_error.CopiesError.TheVariants.{ArrayShapes, Chunks}
+use Rattle.zarrs_chunk_plan.specs.declared.copy.chunk_copies.ChunkCopies.{ChunkCopies}
+use Rattle.zarrs_chunk_plan.specs.declared.copy.chunk_copies.Copies.{Copies}
+use Rattle.zarrs_chunk_plan.specs.declared.copy.copies_error.CopiesError.{CopiesError}
+use Rattle.zarrs_chunk_plan.specs.declared.copy.copies_error.CopiesError.TheVariants.{ArrayShapes, Chunks}
 use Rattle.zarrs_chunk_plan.specs.declared.stored_array.StoredArray.{StoredArray}
-use Rattle.zarrs_chunk_plan.specs.declared.walk.Parts.{Parts}
+use Rattle.zarrs_chunk_plan.specs.declared.read.walk.Parts.{Parts}
 use Rattle.zarrs_chunk_plan.specs.seen.Parts.{ArePartsToCome, IsAbout, MeetSubset, all_chunks, chunks_to_come, offsets_to_come}
 
 module _ {G E H F : Type 0} where

@@ -3,7 +3,7 @@ use Rattle.std.specs.Prelude.{◌≡◌, ◌<◌, ◌≤◌, ℕ, List}
 use Rattle.zarrs_chunk_base.specs.Dimension.{Dimension}
 use Rattle.zarrs_chunk_base.specs.Greatest.{greatest}
 use Rattle.zarrs_chunk_axes.specs.Along.{Along}
-use Rattle.zarrs_chunk_plan.specs.declared.stages.Ends.{Ends}
+use Rattle.zarrs_chunk_plan.specs.declared.two_stages.stages.Ends.{Ends}
 use Rattle.zarrs_chunk_plan.specs.seen.Used.{UsesFirst}
 
 -- both dimensions are of one size, and so many chunks of the target hold elements

@@ -14,7 +14,7 @@ use Rattle.zarrs_chunks.specs.Walks.{Gives, chunks_in}
 use Rattle.zarrs_chunk_plan.specs.seen.ChunksBetween.{all_between, chunks_between, offsets_between}
 use Rattle.zarrs_chunk_parts.specs.Plan.{IsPart, Meets}
 use Rattle.zarrs_chunk_parts.specs.declared.part.Part.{Part}
-use Rattle.zarrs_chunk_plan.specs.declared.walk.Parts.{Parts}
+use Rattle.zarrs_chunk_plan.specs.declared.read.walk.Parts.{Parts}
 
 module _ {G E : Type 0} where
   -- the chunks of which the parts are still to come; and they, counted from the first chunk of the cover

@@ -9,7 +9,7 @@ use Rattle.zarrs_chunk_base.specs.declared.refusal.Refusal.TheVariants.{Refused,
 use Rattle.zarrs_chunks.specs.Subsets.{HasNoHome, IsCover}
 use Rattle.zarrs_chunk_plan.specs.Counts.{AreReadCounts}
 use Rattle.zarrs_chunk_parts.specs.Plan.{IsPlan}
-use Rattle.zarrs_chunk_plan.specs.declared.counts.Counts.{Counts}
+use Rattle.zarrs_chunk_plan.specs.declared.counts.of_plans.Counts.{Counts}
 use Rattle.zarrs_chunk_parts.specs.declared.part.Part.{Part}
 
 -- the box has a cover, and these are the counts of its plan

@@ -3,8 +3,8 @@ use Rattle.std.specs.Prelude.{◌≡◌, ℕ, ◌*◌, ◌<◌, ◌≤◌, List,
 use Rattle.zarrs_chunk_base.specs.Greatest.{greatest}
 use Rattle.zarrs_chunk_plan.specs.Counts.{product}
 use Rattle.zarrs_chunk_plan.specs.Strided.{form_of, has_all, strided}
-use Rattle.zarrs_chunk_plan.specs.declared.bytes.ByteRanges.{ByteRanges}
-use Rattle.zarrs_chunk_plan.specs.declared.bytes.Rows.{Rows}
+use Rattle.zarrs_chunk_plan.specs.declared.bytes.ranges.ByteRanges.{ByteRanges}
+use Rattle.zarrs_chunk_plan.specs.declared.bytes.ranges.Rows.{Rows}
 
 -- these are the ranges of a box along some inner dimensions, in row-major order: the first one begins in the row
 pub record HasRanges (item : ℕ) (edges start shape : List ℕ) (rows : Rows) : Type 0 where

@@ -8,7 +8,7 @@ use Rattle.zarrs_chunk_base.specs.Greatest.{greatest}
 use Rattle.zarrs_chunk_axes.specs.Along.{Along}
 use Rattle.zarrs_chunk_parts.specs.Plan.{Meets}
 use Rattle.zarrs_chunk_plan.specs.Region.{LiesIn}
-use Rattle.zarrs_chunk_plan.specs.declared.sources.Side.{Side}
+use Rattle.zarrs_chunk_plan.specs.declared.counts.sources.Side.{Side}
 
 -- the chunk that holds an index, looked for among so many from a first one on
 abbrev pub home_from : Dimension → (many first index : ℕ) → ℕ

@@ -9,8 +9,8 @@ use Rattle.zarrs_chunk_base.specs.Greatest.{greatest}
 use Rattle.zarrs_chunk_axes.specs.EqualEdges.{IsEqualEdges}
 use Rattle.zarrs_chunk_axes.specs.RowMajor.{IsBefore}
 use Rattle.zarrs_chunk_plan.specs.Counts.{product}
-use Rattle.zarrs_chunk_plan.specs.declared.fewest.Chosen.{Chosen}
-use Rattle.zarrs_chunk_plan.specs.declared.fewest.Edge.{Edge}
+use Rattle.zarrs_chunk_plan.specs.declared.two_stages.fewest.Chosen.{Chosen}
+use Rattle.zarrs_chunk_plan.specs.declared.two_stages.fewest.Edge.{Edge}
 use Rattle.zarrs_chunk_plan.specs.seen.Sources.{met_by_range}
 
 -- What is read along a dimension in two stages, by way of a dimension whose chunks have this edge. So many chunks of the target hold elements.

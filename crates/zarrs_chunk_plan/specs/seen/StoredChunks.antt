@@ -8,7 +8,7 @@ use Rattle.zarrs_chunks.specs.Walks.{chunks_in}
 use Rattle.zarrs_chunk_parts.specs.Plan.{Meets}
 use Rattle.zarrs_chunk_plan.specs.Rechunking.{array_box}
 use Rattle.zarrs_chunk_plan.specs.StoredChunks.{IsListed}
-use Rattle.zarrs_chunk_plan.specs.declared.stored_chunks.StoredChunks.{StoredChunks}
+use Rattle.zarrs_chunk_plan.specs.declared.copy.stored_chunks.StoredChunks.{StoredChunks}
 
 -- whether the chunk with this number, of those that the plan writes, is marked as stored
 unfoldable pub is_stored : StoredChunks → ℕ → Bool

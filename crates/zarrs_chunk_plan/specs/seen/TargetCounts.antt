@@ -6,7 +6,7 @@ use Rattle.zarrs_chunk_base.specs.Dimension.{Dimension}
 use Rattle.zarrs_chunks.specs.Walks.{chunks_in}
 use Rattle.zarrs_chunk_plan.specs.Counts.{AreFew, AreMany, product}
 use Rattle.zarrs_chunk_parts.specs.Plan.{Meets}
-use Rattle.zarrs_chunk_plan.specs.declared.counts.Counts.{Counts}
+use Rattle.zarrs_chunk_plan.specs.declared.counts.of_plans.Counts.{Counts}
 use Rattle.zarrs_chunk_plan.specs.seen.Sources.{met_by}
 
 -- how many chunks of the source each of the chunks shares elements with, as these counters tell along each dimension

@@ -5,7 +5,7 @@ use Rattle.serde_json.specs.Data.{Data}
 use Rattle.zarrs_chunk_base.specs.Dimension.{Dimension}
 use Rattle.zarrs_chunk_plan.specs.Rechunking.{Group}
 use Rattle.zarrs_chunk_plan.specs.Region.{AreMovedInto}
-use Rattle.zarrs_chunk_plan.specs.declared.chunk_copies.Copies.{Copies}
+use Rattle.zarrs_chunk_plan.specs.declared.copy.chunk_copies.Copies.{Copies}
 use Rattle.zarrs_chunk_plan.specs.seen.Copies.{region_of}
 use Rattle.zarrs_chunk_questions.specs.Pages.{chunks_from, count_of, group_tree, is_more, page_tree}
 use Rattle.zarrs_chunk_questions.specs.Regions.{moved_group_tree}

@@ -5,7 +5,7 @@ use Rattle.std.specs.declared.alloc.Global.{Global}
 use Rattle.serde_json.specs.View.{view}
 use Rattle.zarrs_chunk_base.specs.Refusal.{OrMemory}
 use Rattle.zarrs_chunk_base.specs.declared.refusal.Refusal.{Refusal}
-use Rattle.zarrs_chunk_plan.specs.declared.share.Share.{Share}
+use Rattle.zarrs_chunk_plan.specs.declared.shares.share.Share.{Share}
 use Rattle.zarrs_chunk_questions.specs.Question as question
 use Rattle.zarrs_chunk_questions.specs.Reading.{Fault, Reading, missing, no_call, not_json, not_object, wrong_value}
 use Rattle.zarrs_chunk_questions.specs.declared.asked.Asked.{Asked}

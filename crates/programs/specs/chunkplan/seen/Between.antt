@@ -5,7 +5,7 @@ use Rattle.zarrs_chunk_keys.specs.seen.Encodings.{encoding_in}
 use Rattle.zarrs_chunks.specs.GridKinds.{grid_kind, regular}
 use Rattle.zarrs_chunks.specs.seen.Grids.{grid_in}
 use Rattle.zarrs_chunk_plan.specs.Stages.{FindsShape}
-use Rattle.zarrs_chunk_plan.specs.declared.stages_error.StagesError.{StagesError}
+use Rattle.zarrs_chunk_plan.specs.declared.two_stages.stages_error.StagesError.{StagesError}
 use Rattle.programs.specs.chunkplan.Planned.{between_keys}
 use Rattle.programs.specs.chunkplan.seen.Opened.{sizes_of}
 use Rattle.programs.specs.declared.chunkplan.between.Between.{Between}

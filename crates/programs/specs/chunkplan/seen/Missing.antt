@@ -7,8 +7,8 @@ use Rattle.zarrs_chunk_plan.specs.Rechunking.{Group}
 use Rattle.zarrs_chunk_plan.specs.Counted.{counted}
 use Rattle.zarrs_chunk_plan.specs.Shares.{before_share, share_of}
 use Rattle.zarrs_chunk_parts.specs.declared.part.Part.{Part}
-use Rattle.zarrs_chunk_plan.specs.declared.share.Share.{Share}
-use Rattle.zarrs_chunk_plan.specs.declared.stored_chunks.StoredChunks.{StoredChunks}
+use Rattle.zarrs_chunk_plan.specs.declared.shares.share.Share.{Share}
+use Rattle.zarrs_chunk_plan.specs.declared.copy.stored_chunks.StoredChunks.{StoredChunks}
 use Rattle.zarrs_chunk_plan.specs.seen.StoredChunks.{Knows, is_stored}
 use Rattle.serde_json.specs.Data.{Data}
 use Rattle.zarrs_chunk_base.specs.Json.{IsJsonOf}

@@ -6,9 +6,9 @@ use Rattle.zarrs_chunk_keys.specs.declared.chunk_key_encoding.named.ChunkKeyEnco
 use Rattle.zarrs_chunk_keys.specs.seen.Encodings.{encoding_in}
 use Rattle.zarrs_chunk_parts.specs.declared.part.Part.{Part}
 use Rattle.zarrs_chunk_plan.specs.Rechunking.{Group}
-use Rattle.zarrs_chunk_plan.specs.declared.chunk_copies.Copies.{Copies}
+use Rattle.zarrs_chunk_plan.specs.declared.copy.chunk_copies.Copies.{Copies}
 use Rattle.zarrs_chunk_plan.specs.declared.stored_array.StoredArray.{StoredArray}
-use Rattle.zarrs_chunk_plan.specs.declared.walk.Parts.{Parts}
+use Rattle.zarrs_chunk_plan.specs.declared.read.walk.Parts.{Parts}
 use Rattle.zarrs_chunk_plan.specs.seen.Copies.{AreMovesToCome, CanMove}
 use Rattle.zarrs_chunk_plan.specs.seen.Parts.{ArePartsToCome, MeetSubset}
 use Rattle.zarrs_chunks.specs.declared.chunk_grid.named.ChunkGrid.{ChunkGrid}

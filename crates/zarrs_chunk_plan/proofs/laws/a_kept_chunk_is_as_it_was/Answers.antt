@@ -1,4 +1,4 @@
-use Rattle.zarrs_chunk_plan.proofs.ResizeLaws.{kept_place}
+use Rattle.zarrs_chunk_plan.proofs.resize.ResizeLaws.{kept_place}
 use Rattle.zarrs_chunk_plan.proofs.laws.a_kept_chunk_is_as_it_was.Goals as goal
 
 pub returns-clause-place : goal.returns-clause-place

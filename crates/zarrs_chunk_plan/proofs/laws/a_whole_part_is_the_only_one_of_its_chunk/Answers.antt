@@ -1,4 +1,4 @@
-use Rattle.zarrs_chunk_plan.proofs.Exchanged.{one_of_its_chunk}
+use Rattle.zarrs_chunk_plan.proofs.copy.Exchanged.{one_of_its_chunk}
 use Rattle.zarrs_chunk_plan.proofs.laws.a_whole_part_is_the_only_one_of_its_chunk.Goals as goal
 
 pub returns : goal.returns

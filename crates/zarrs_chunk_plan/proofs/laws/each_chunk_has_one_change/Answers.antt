@@ -1,5 +1,5 @@
 use Rattle.std.proofs.Common.{inl, refl, true}
-use Rattle.zarrs_chunk_plan.proofs.ResizeLaws.{change_keys_differ, has_one, is_asked, one_what}
+use Rattle.zarrs_chunk_plan.proofs.resize.ResizeLaws.{change_keys_differ, has_one, is_asked, one_what}
 use Rattle.zarrs_chunk_plan.proofs.laws.each_chunk_has_one_change.Goals as goal
 
 pub returns-clause-one : goal.returns-clause-one

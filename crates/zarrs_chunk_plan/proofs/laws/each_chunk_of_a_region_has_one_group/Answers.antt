@@ -1,4 +1,4 @@
-use Rattle.zarrs_chunk_plan.proofs.Regions.{target_keys_differ, whole_is_written}
+use Rattle.zarrs_chunk_plan.proofs.copy.Regions.{target_keys_differ, whole_is_written}
 use Rattle.zarrs_chunk_plan.proofs.laws.each_chunk_of_a_region_has_one_group.Goals as goal
 
 pub returns-clause-one_key : goal.returns-clause-one_key

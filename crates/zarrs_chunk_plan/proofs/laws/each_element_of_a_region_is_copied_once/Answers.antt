@@ -1,4 +1,4 @@
-use Rattle.zarrs_chunk_plan.proofs.Regions.{has_keys, moves_region, no_other_from, no_other_to, of_one_shape, some_copy_of_region}
+use Rattle.zarrs_chunk_plan.proofs.copy.Regions.{has_keys, moves_region, no_other_from, no_other_to, of_one_shape, some_copy_of_region}
 use Rattle.zarrs_chunk_plan.proofs.laws.each_element_of_a_region_is_copied_once.Goals as goal
 
 pub returns-clause-one : goal.returns-clause-one

@@ -1,4 +1,4 @@
-use Rattle.zarrs_chunk_plan.proofs.ResizeLaws.{in_both, stays, stays_in_place}
+use Rattle.zarrs_chunk_plan.proofs.resize.ResizeLaws.{in_both, stays, stays_in_place}
 use Rattle.zarrs_chunk_plan.proofs.laws.each_element_stays_in_its_chunk.Goals as goal
 
 pub returns-clause-chunk : goal.returns-clause-chunk

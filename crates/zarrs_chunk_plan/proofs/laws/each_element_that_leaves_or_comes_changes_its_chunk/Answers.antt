@@ -1,4 +1,4 @@
-use Rattle.zarrs_chunk_plan.proofs.ResizeLaws.{asked_of_coming, asked_of_leaving, coming, leaving}
+use Rattle.zarrs_chunk_plan.proofs.resize.ResizeLaws.{asked_of_coming, asked_of_leaving, coming, leaving}
 use Rattle.zarrs_chunk_plan.proofs.laws.each_element_that_leaves_or_comes_changes_its_chunk.Goals as goal
 
 pub returns-clause-leaves : goal.returns-clause-leaves

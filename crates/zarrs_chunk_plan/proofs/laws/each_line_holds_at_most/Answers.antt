@@ -1,5 +1,5 @@
-use Rattle.zarrs_chunk_plan.proofs.EqualChunks.{none_longer}
-use Rattle.zarrs_chunk_plan.proofs.HeldLines.{hold}
+use Rattle.zarrs_chunk_plan.proofs.two_stages.EqualChunks.{none_longer}
+use Rattle.zarrs_chunk_plan.proofs.two_stages.HeldLines.{hold}
 use Rattle.zarrs_chunk_plan.proofs.laws.each_line_holds_at_most.Goals as goal
 
 pub returns-clause-held : goal.returns-clause-held

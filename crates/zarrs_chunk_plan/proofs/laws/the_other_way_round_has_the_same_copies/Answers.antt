@@ -1,4 +1,4 @@
-use Rattle.zarrs_chunk_plan.proofs.Exchanged.{other_way_round}
+use Rattle.zarrs_chunk_plan.proofs.copy.Exchanged.{other_way_round}
 use Rattle.zarrs_chunk_plan.proofs.laws.the_other_way_round_has_the_same_copies.Goals as goal
 
 pub returns : goal.returns

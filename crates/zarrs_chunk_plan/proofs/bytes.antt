@@ -1,0 +1,3 @@
+pub mod RangeStarts
+pub mod StoredOrder
+pub mod StridedForms

@@ -1,0 +1,34 @@
+-- How many lists a box has.
+use Rattle.std.proofs.Common.{◌≡◌, ◌↔◌, ◌∙◌, ℕ, zero, suc, ◌*◌, List, [], ◌∷◌, Contains, length, ap, refl, arith}
+use Rattle.zarrs_chunk_base.specs.ArraySubset.{Box, IsBox, IsInside}
+use Rattle.zarrs_chunk_axes.specs.RowMajor.{row_major}
+use Rattle.zarrs_chunks.specs.Walks.{chunks_in}
+use Rattle.zarrs_chunks.proofs.ChunksInBoxes.{are_those_inside, chunks_once}
+use Rattle.zarrs_chunk_plan.specs.Counts.{AreMany, product}
+use Rattle.zarrs_chunk_plan.proofs.shares.ByNumber.{as_many, length-shape}
+
+-- as many lists are below a shape as the product of its numbers
+pub below_shape : (shape : List ℕ) → length (row_major shape) ≡ product shape
+unfolding row_major
+below_shape [] = refl
+below_shape (n ∷ shape) = length-shape n shape ∙ ap (λ m. n * m) (below_shape shape)
+
+pub in_box_many : (b : Box) → length (chunks_in b) ≡ product b.shape
+in_box_many b = as_many b.start b.shape ∙ below_shape b.shape
+
+-- so many have a property that those in the box have, and no others
+pub box_many : (b : Box) (P : List ℕ → Type 0) → IsBox b → ((numbers : List ℕ) → IsInside b numbers ↔ P numbers) → AreMany P (product b.shape)
+box_many b P is_box same = record {
+  members = chunks_in b;
+  once = chunks_once b is_box;
+  are_those = λ numbers. (
+    λ has. (same numbers).0 ((are_those_inside b is_box numbers).0 has),
+    λ holds. (are_those_inside b is_box numbers).1 ((same numbers).1 holds),
+  );
+  as_many = in_box_many b;
+}
+
+pub product_of_none : (shape : List ℕ) → Contains shape 0 → product shape ≡ 0
+product_of_none [] (k, within, is) = absurd (omega arith)
+product_of_none (n ∷ shape) (zero, within, is) = let none : n ≡ 0 = is in rw none (omega arith)
+product_of_none (n ∷ shape) (suc k, within, is) = let none = product_of_none shape (k, omega arith, is) in rw none (omega arith)

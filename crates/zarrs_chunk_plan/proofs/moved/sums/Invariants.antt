@@ -1,7 +1,0 @@
-use Rattle.std.proofs.Common.{◌≡◌, ◌++◌}
-use Rattle.zarrs_chunks.specs.Walks.{counted_from}
-use Rattle.zarrs_chunk_plan.proofs.moved.sums.Given as goal
-
--- with the sums of the numbers that are left, these are all
-abbrev pub invariant-loop-start : goal.invariant-loop-start
-invariant-loop-start l = l.sums.items ++ counted_from l.start-iterator.a.rest.now l.start-iterator.b.rest.now ≡ counted_from l.first l.steps

@@ -1,7 +1,0 @@
-use Rattle.zarrs_chunk_plan.specs.seen.Outside.{lesser}
-use Rattle.zarrs_chunk_plan.proofs.OutsideBoxes.{HasGrown}
-use Rattle.zarrs_chunk_plan.proofs.outside.outside.Given as goal
-
--- the box has grown along the dimensions that were looked at
-abbrev pub invariant-loop-dimension : goal.invariant-loop-dimension
-invariant-loop-dimension l = HasGrown (lesser l.inner l.outer) l.outer l.dimension l.shape.items l.boxes.items

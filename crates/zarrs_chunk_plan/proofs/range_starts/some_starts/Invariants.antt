@@ -1,7 +1,0 @@
-use Rattle.std.proofs.Common.{◌≡◌, drop}
-use Rattle.zarrs_chunk_plan.specs.Bytes.{begins}
-use Rattle.zarrs_chunk_plan.proofs.range_starts.some_starts.Given as goal
-
--- these are where the ranges along the dimensions begin that were looked at
-abbrev pub invariant-loop-dimension : goal.invariant-loop-dimension
-invariant-loop-dimension l = l.starts.items ≡ begins l.first (drop l.dimension l.counts) (drop l.dimension l.strides)

@@ -1,0 +1,118 @@
+-- Where each chunk has a key, each box of elements of the array has a plan: the parts ahead of a walk exist.
+use Rattle.std.proofs.Common.{◌≡◌, ◌∙◌, ℕ, suc, ◌+◌, ◌-◌, ◌<◌, ◌≤◌, List, [], ◌∷◌, ap, ap₂, length, map, refl, sym, arith}
+use Rattle.std.specs.List.{AllByRecursion, AllZip}
+use Rattle.zarrs_chunk_base.specs.ArraySubset.{Box, IsBox, IsEmptyBox, IsInside, ends, lasts}
+use Rattle.zarrs_chunk_base.specs.Dimension.{Dimension, Holds, InBox, IsChain, IsShape, array_sizes}
+use Rattle.zarrs_chunk_base.specs.Greatest.{AllFit, greatest}
+use Rattle.zarrs_chunk_base.proofs.InEach.{by_dimension}
+use Rattle.zarrs_chunk_axes.specs.InBounds.{AreBelow}
+use Rattle.zarrs_chunks.specs.Subsets.{IsCover}
+use Rattle.zarrs_chunks.specs.Walks.{chunks_in}
+use Rattle.zarrs_chunks.proofs.Boxes.{has_origin}
+use Rattle.zarrs_chunks.proofs.ChunksInBoxes.{are_those_inside, inside_fits}
+use Rattle.zarrs_chunks.proofs.Covers.{chunks_small, firsts_before_lasts, in_order, is_cover, lasts_small}
+use Rattle.zarrs_chunks.proofs.FittingChunks.{counted_home}
+use Rattle.zarrs_chunks.proofs.Meeting.{cover_meets}
+use Rattle.zarrs_chunks.proofs.UpTo.{ones_fit}
+use Rattle.zarrs_chunk_parts.specs.Plan.{IsPart, IsPlan, Meets}
+use Rattle.zarrs_chunk_parts.specs.declared.part.Part.{Part}
+use Rattle.zarrs_chunk_plan.specs.seen.Parts.{HasKeys}
+use Rattle.zarrs_chunk_plan.proofs.read.Plans.{all_of_each}
+use Rattle.zarrs_chunk_plan.proofs.counts.Written.{first_within, last_within}
+use Rattle.zarrs_chunk_parts.proofs.Shares.{boxes_are, from_chunk, from_start, has_all_of}
+use Rattle.zarrs_chunk_parts.proofs.Wholes.{test_rest}
+
+-- ---- one chunk
+
+pub has_shape : (ds : List Dimension) (chunk index : List ℕ) → InBox ds chunk index → (edges : List ℕ) × IsShape ds chunk edges
+has_shape =
+    by_dimension Holds (λ ds chunk index. (edges : List ℕ) × IsShape ds chunk edges) ([], tt)
+    (λ d c i ds chunk index here rest.
+    let (edges, are) = rest in
+    ((d.end c - d.start c) ∷ edges, (record { chunk = here.chunk; edge = omega arith }, are)))
+
+-- a chunk that holds an index of 64-bit numbers has such numbers
+pub chunk_fits : (ds : List Dimension) → AllByRecursion IsChain ds → (chunk index : List ℕ) → InBox ds chunk index → AllFit index → AllFit chunk
+chunk_fits ds chains chunk index = chunks_small (λ n. n ≤ greatest) (λ m n low fits. omega arith) ds chunk index chains
+
+-- ---- the cover of a box of elements of the array
+
+-- how many numbers there are from the first to the last one, in each dimension
+sizes_between : (first last : List ℕ) → AllZip ◌≤◌ first last
+    → (sizes : List ℕ) × (length first ≡ length sizes) × (ends first sizes ≡ map (λ n. n + 1) last)
+sizes_between [] [] order = ([], refl, refl)
+sizes_between (f ∷ first) (l ∷ last) order =
+    let (sizes, lengths, same) = sizes_between first last order.1 in
+    let here : f + (l - f + 1) ≡ l + 1 = omega arith in
+    ((l - f + 1) ∷ sizes, ap suc lengths, ap₂ (λ n ns. n ∷ ns) here same)
+sizes_between _ _ order = absurd order
+
+pub has_cover : (ds : List Dimension) → AllByRecursion IsChain ds → (b : Box) → IsBox b → (¬ IsEmptyBox b)
+    → ((index : List ℕ) → IsInside b index → AreBelow (array_sizes ds) index) → (cover : Box) × IsCover ds b cover
+has_cover ds chains b is_box some within =
+    let end = lasts b.start b.shape in
+    let inside = first_within b.start b.shape is_box.lengths some in
+    let also = last_within b.start b.shape is_box.lengths some in
+    let (first, _, in_first) = counted_home ds b.start chains (within b.start inside) in
+    let (last, _, in_last) = counted_home ds end chains (within end also) in
+    let order = in_order ds first last b.start end chains (firsts_before_lasts b.start b.shape is_box.lengths) in_first in_last in
+    let end_small = lasts_small b.start b.shape is_box.lengths is_box.fits some in
+    let small = chunks_small (λ n. n < greatest) (λ m n low below. omega arith) ds last end chains in_last end_small in
+    let (sizes, lengths, same) = sizes_between first last order in
+    let cover : Box = record { start = first; shape = sizes } in
+    (cover, is_cover ds b cover first last (record { lengths = lengths; fits = rw same (ones_fit last small) }) refl same order in_first in_last)
+
+-- ---- the parts
+
+pub each_has : {X Y : Type 0} (P : X → Type 0) (R : X → Y → Type 0) → ((x : X) → P x → (y : Y) × R x y) → (xs : List X) → AllByRecursion P xs
+    → (ys : List Y) × AllZip R xs ys
+each_has P R has [] all = ([], tt)
+each_has P R has (x ∷ xs) all =
+    let (y, is) = has x all.0 in
+    let (ys, are) = each_has P R has xs all.1 in
+    (y ∷ ys, (is, are))
+
+module _ (ds : List Dimension) (IsKey : List ℕ → List ℕ → Type 0) (chains : AllByRecursion IsChain ds) (keys : HasKeys IsKey) where
+  pub has_part : (b : Box) → IsBox b → (chunk : List ℕ) → Meets ds b chunk → (part : Part) × IsPart ds IsKey b chunk part
+  has_part b is_box chunk meets =
+      let (index, box, inside) = meets in
+      let fit = inside_fits b.start b.shape index is_box.fits inside in
+      let (origin, is, _) = has_origin ds chunk index box fit in
+      let (edges, long) = has_shape ds chunk index box in
+      let (key, is_key) = keys chunk (chunk_fits ds chains chunk index box fit) in
+      let (_, _, shared) = boxes_are ds b chunk origin edges is_box meets is long in
+      let (starts, lengths, sizes, same) = has_all_of ds b chunk origin edges is_box meets is long in
+      let (whole, told) = test_rest b origin edges (array_sizes ds) lengths sizes starts (sym is_box.lengths ∙ starts) in (
+        record {
+          key = key;
+          chunk = record { items = chunk; capacity = 0 };
+          shape = record { items = edges; capacity = 0 };
+          whole = whole;
+          in_chunk = from_chunk origin edges b;
+          in_subset = from_start origin edges b;
+        },
+        record {
+          numbers = refl;
+          key = is_key;
+          shape = long;
+          whole = (λ t. same.0 (told.0 t), λ has. told.1 (same.1 has));
+          boxes = shared;
+        },
+      )
+
+  pub have_parts : (b : Box) → IsBox b → (chunks : List (List ℕ)) → AllByRecursion (Meets ds b) chunks
+      → (parts : List Part) × AllZip (IsPart ds IsKey b) chunks parts
+  have_parts b is_box = each_has (Meets ds b) (IsPart ds IsKey b) (has_part b is_box)
+
+  -- over a cover there is a plan
+  pub plan_over : (b cover : Box) → IsBox b → (¬ IsEmptyBox b) → IsCover ds b cover → (parts : List Part) × IsPlan ds IsKey b parts
+  plan_over b cover is_box some is =
+      let meet = all_of_each (Meets ds b) (chunks_in cover)
+      (λ chunk has. (cover_meets ds b cover chains is_box some is chunk).0 ((are_those_inside cover is.is_box chunk).0 has))
+      in
+      let (parts, are) = have_parts b is_box (chunks_in cover) meet in
+      (parts, record { cover = cover; is_cover = is; are_parts = are })
+
+  pub has_plan : (b : Box) → IsBox b → (¬ IsEmptyBox b) → ((index : List ℕ) → IsInside b index → AreBelow (array_sizes ds) index)
+      → (parts : List Part) × IsPlan ds IsKey b parts
+  has_plan b is_box some within = let (cover, is) = has_cover ds chains b is_box some within in plan_over b cover is_box some is

@@ -1,8 +1,0 @@
-use Rattle.zarrs_chunk_plan.proofs.AskedChunks.{are_changed}
-use Rattle.zarrs_chunk_plan.proofs.resize.changes.Goals as goal
-
-pub returns-clause-changed : goal.returns-clause-changed
-returns-clause-changed g c = λ resized.
-    rw c.in_ok-new.ensures.left
-    (are_changed _ _ _ _ _ c.in_ok-uses.ensures.before c.in_ok-uses.ensures.after (c.in_ok-uses.ensures.kept resized) _ _ c.in_ok-boxes.ensures.once
-    c.in_ok-boxes.ensures.those)

@@ -1,0 +1,6 @@
+pub mod BeforeShares
+pub mod Between
+pub mod ByNumber
+pub mod FromNumber
+pub mod Ranks
+pub mod ShareLists

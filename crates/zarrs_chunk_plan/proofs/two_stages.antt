@@ -1,0 +1,8 @@
+pub mod Choices
+pub mod ChosenShapes
+pub mod EdgesTried
+pub mod EqualChunks
+pub mod HeldLines
+pub mod LargestChunks
+pub mod StageLaws
+pub mod StageReads

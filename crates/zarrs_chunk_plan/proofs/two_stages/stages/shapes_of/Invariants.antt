@@ -1,0 +1,9 @@
+use Rattle.std.proofs.Common.{◌≡◌, min, take}
+use Rattle.zarrs_chunk_base.specs.Greatest.{greatest}
+use Rattle.zarrs_chunk_plan.specs.Stages.{shapes_tried}
+use Rattle.zarrs_chunk_plan.specs.seen.Stages.{numbers_of}
+use Rattle.zarrs_chunk_plan.proofs.two_stages.stages.shapes_of.Given as goal
+
+-- as many as the rows so far make
+abbrev pub invariant-loop-row : goal.invariant-loop-row
+invariant-loop-row l = l.shapes ≡ min greatest (shapes_tried (numbers_of (take l.row-index l.tried)))

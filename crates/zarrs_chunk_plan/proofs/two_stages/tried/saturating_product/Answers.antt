@@ -1,0 +1,18 @@
+use Rattle.std.proofs.Common.{◌∙◌, ap, min, refl, sym, take}
+use Rattle.std.proofs.lemmas.List.{take_all, take_more}
+use Rattle.zarrs_chunk_base.specs.Greatest.{greatest}
+use Rattle.zarrs_chunk_plan.specs.Counts.{product}
+use Rattle.zarrs_chunk_plan.proofs.two_stages.EdgesTried.{one_more}
+use Rattle.zarrs_chunk_plan.proofs.two_stages.tried.saturating_product.Goals as goal
+
+pub loop-number-preserved : goal.loop-number-preserved
+loop-number-preserved c =
+    let numbers = c.args.numbers.now in
+    let k = c.loop-number.number-index in
+    c.saturating_mul-held.ensures ∙ rw c.loop-number.invariant refl ∙ one_more (take k numbers) _
+    ∙ ap (λ xs. min greatest (product xs)) (sym (take_more numbers k 0 c.loop-number-test.true))
+
+pub returns : goal.returns
+returns c =
+    c.loop-number.invariant
+    ∙ ap (λ xs. min greatest (product xs)) (take_all c.loop-number.number-index c.args.numbers.now c.loop-number-test.false)

@@ -1,0 +1,8 @@
+use Rattle.std.proofs.Common.{◌≡◌, min, take}
+use Rattle.zarrs_chunk_base.specs.Greatest.{greatest}
+use Rattle.zarrs_chunk_plan.specs.Counts.{product}
+use Rattle.zarrs_chunk_plan.proofs.two_stages.tried.saturating_product.Given as goal
+
+-- the product of the numbers so far
+abbrev pub invariant-loop-number : goal.invariant-loop-number
+invariant-loop-number l = l.held ≡ min greatest (product (take l.number-index l.numbers))

@@ -1,0 +1,11 @@
+//! The chunks in a box of chunk numbers, by their number and by shares.
+//!
+//! | Module | What it holds |
+//! |---|---|
+//! | `chunks_between` | the walk over the chunks of a share |
+//! | `numbered_chunks` | the chunks in a box of chunk numbers, by their number; `some_chunks`: those from any one on |
+//! | `share` | one of several shares of a plan |
+
+pub(crate) mod chunks_between;
+pub(crate) mod numbered_chunks;
+pub(crate) mod share;
