@@ -1,7 +1,7 @@
-"""What a call tells of a refusal, and how much a walk may take: `test.py` runs it.
+"""What a call says of a refusal, and how much a walk may take: `test.py` runs it.
 
 It compares the words of metadata's faults and of codes. Walks are asked for with a buffer that is too short for their
-items. Of two faults, `zarrs_answer` and the call of a plan are to tell the same one.
+items. If there are two faults, `zarrs_answer` and the call of a plan must report the same one.
 """
 import ctypes
 import itertools

@@ -23,10 +23,10 @@ const STAGES_LEN: usize = 640;
 /// How many bytes a shape is given room for at first.
 const SHAPE_LEN: usize = 64;
 
-/// What the two stages by an array between copy.
+/// What the two stages by an intermediate array copy.
 #[derive(Drop)]
 pub(crate) struct StagesCounts {
-    /// The shape of the chunks of the array between.
+    /// The shape of the intermediate array's chunks.
     pub(crate) shape: ArrayShape,
     /// The counts of the first stage.
     pub(crate) first: Counts,
@@ -106,7 +106,7 @@ fn append_product(
     Ok(())
 }
 
-/// The line of the counts of a rechunking in one stage, and in two, where there is an array between.
+/// The line of the counts of a rechunking in one stage, and in two, if there is an intermediate array.
 ///
 /// # Errors
 /// Out of memory.
@@ -131,7 +131,7 @@ pub(crate) fn stages_line(
     Ok(line)
 }
 
-/// Appends the shape of the chunks of the array between, or `null` where there is none.
+/// Appends the shape of the intermediate array's chunks, or `null` without such an array.
 ///
 /// # Errors
 /// Out of memory.
@@ -182,7 +182,7 @@ fn append_flag(line: &mut Vec<u8>, flag: bool) -> Result<(), AllocError>
     Ok(())
 }
 
-/// Appends the list of the counts of both stages, or `null` where there are none.
+/// Appends the list of the counts of both stages, or `null` without stages.
 ///
 /// # Errors
 /// Out of memory.

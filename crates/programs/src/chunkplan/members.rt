@@ -28,7 +28,7 @@ pub(crate) fn member_flag(tree: &Value, field: &'static str) -> Result<bool, Run
     }
 }
 
-/// The order that a document asks for; where it asks for none, that of the target.
+/// The order that a document asks for: the target's, if it says nothing.
 pub(crate) fn member_order(tree: &Value) -> Result<Order, RunFault>
     ensures { MatchResult result (HasOrder (view tree.now))
         (HasOrderFault (view tree.now)) }
@@ -43,7 +43,7 @@ pub(crate) fn member_order(tree: &Value) -> Result<Order, RunFault>
     }
 }
 
-/// The share that a document asks for; where it asks for none, the one that is the whole plan.
+/// The share that a document asks for: the whole plan, if it says nothing.
 pub(crate) fn member_share(alloc: Global, tree: &Value) -> Result<Share, RunFault>
     ensures { MatchResult result (HasShare (view tree.now))
         (λ fault. (fault ≡ Memory) ⊎ HasShareFault (view tree.now) fault) }
@@ -60,7 +60,7 @@ pub(crate) fn member_share(alloc: Global, tree: &Value) -> Result<Share, RunFaul
     }
 }
 
-/// How many elements a worker may hold, where a document says it.
+/// How many elements a worker may hold, if a document says it.
 pub(crate) fn member_bound(alloc: Global, tree: &Value) -> Result<Option<u64>, RunFault>
     ensures { MatchResult result (HasIfAny size_of (view tree.now) (codes "max_elements"))
         (λ fault. (fault ≡ Memory)
@@ -75,7 +75,7 @@ pub(crate) fn member_bound(alloc: Global, tree: &Value) -> Result<Option<u64>, R
     }
 }
 
-/// The stage that a document asks for, where it asks for one.
+/// The stage that a document asks for, if it asks for one.
 pub(crate) fn member_stage(alloc: Global, tree: &Value) -> Result<Option<Stage>, RunFault>
     ensures { MatchResult result (HasIfAny stage_in (view tree.now) (codes "stage"))
         (λ fault. (fault ≡ Memory)

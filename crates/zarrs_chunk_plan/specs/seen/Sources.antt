@@ -33,7 +33,7 @@ taken d at size chunk = min (d.end chunk) (at + size) - taken_from d at chunk
 abbrev pub met_along : (source target : Dimension) → (first at size chunk : ℕ) → ℕ
 met_along source target first at size chunk = met source (first + (taken_from target at chunk - at)) (taken target at size chunk)
 
--- with each of so many chunks of the target from a first one on
+-- with each of `chunks` chunks of the target, from `chunk` on
 abbrev pub met_by_range : (source target : Dimension) → (first at size chunk chunks : ℕ) → List ℕ
 met_by_range source target first at size chunk chunks = map (met_along source target first at size) (range_with_len chunk chunks)
 
@@ -41,7 +41,7 @@ met_by_range source target first at size chunk chunks = map (met_along source ta
 abbrev pub TakesSome : Dimension → (at size chunk : ℕ) → Type 0
 TakesSome d at size chunk = IsTrue (d.has_chunk chunk) × (max at (d.start chunk) < min (d.end chunk) (at + size))
 
--- and so does each of so many from a first one on
+-- and so does each of `chunks` chunks from `first` on
 abbrev pub RangeTakes : Dimension → (at size first chunks : ℕ) → Type 0
 RangeTakes d at size first chunks = (chunk : ℕ) → first ≤ chunk → chunk < first + chunks → TakesSome d at size chunk
 

@@ -9,7 +9,7 @@ use Rattle.zarrs_chunk_plan.specs.Resize.{IsResized}
 abbrev pub HoldsSome : Dimension → ℕ → Type 0
 HoldsSome d c = IsTrue (d.has_chunk c) × (d.start c < d.end c) × (d.start c < d.array_size)
 
--- so many chunks hold an element of the array, from the first one on, if there are some
+-- the first `used` chunks, and no others, hold an element of the array, if there are any
 abbrev pub UsesFirst : Dimension → ℕ → Type 0
 UsesFirst d used = 0 < used → (c : ℕ) → c < used ↔ HoldsSome d c
 
@@ -19,7 +19,7 @@ pub record IsHeldRange (d : Dimension) (first last start size : ℕ) : Type 0 wh
   pub some : 0 < size
   pub fits : start + size ≤ greatest
 
--- The longest of so many chunks, from the first one on, is so many elements long; 1, if there are none.
+-- The longest of the first `many` chunks is `edge` elements long; 1 without chunks.
 pub record IsLongest (d : Dimension) (many edge : ℕ) : Type 0 where
   pub of_none : many ≡ 0 → edge ≡ 1
   pub is_one : 0 < many → (c : ℕ) × (c < many) × HasEdge d c edge

@@ -123,8 +123,8 @@ pub(crate) fn sources_along<G: ChunkGridTraits, H: ChunkGridTraits>(
     Ok((first + sum + last, first.max(most).max(last)))
 }
 
-/// The edge of the source's chunks and that of the target's, where both dimensions are regular, elements keep their index, and there are chunks besides
-/// the first and the last one.
+/// Returns the edges of the source's chunks and of the target's. `None` if a dimension isn't regular, if elements don't keep their index, or if there are
+/// no chunks but the first and the last one.
 fn edges_of_most<G: ChunkGridTraits, H: ChunkGridTraits>(
     side: &Side<G, H>,
 ) -> Option<(NonZeroU64, NonZeroU64)>
@@ -167,7 +167,7 @@ fn sources_one_by_one<G: ChunkGridTraits, H: ChunkGridTraits>(
     Ok((sum, most))
 }
 
-/// With how many chunks of the source a chunk of the target shares elements. The chunk is so many steps behind the first one.
+/// Counts the chunks of the source with which a chunk of the target shares elements, the one that is `steps` chunks after the first.
 ///
 /// # Errors
 /// Out of memory.
@@ -215,7 +215,7 @@ fn home_along<G: ChunkGridTraits>(
     expect_found(grid.chunk_along(alloc, dimension, index)?)
 }
 
-/// What is found of a number that a chunk has: where there is nothing, it is out of memory.
+/// Returns what was found of a number that a chunk has. Nothing is found only if it is out of memory.
 ///
 /// # Errors
 /// Out of memory.

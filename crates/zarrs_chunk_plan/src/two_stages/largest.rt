@@ -49,7 +49,7 @@ pub fn largest_chunk<G: ChunkGridTraits>(
     Ok(Some(shape))
 }
 
-/// How long the longest of so many chunks of a dimension is, from the first one on; 1, if there are none. Each of them holds an element of the array.
+/// Returns how long the longest of the first `many` chunks of a dimension is; 1 without chunks. Each of them holds an element of the array.
 ///
 /// # Errors
 /// Out of memory.
