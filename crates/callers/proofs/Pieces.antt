@@ -6,7 +6,7 @@ use Rattle.zarrs_chunk_axes.specs.RowMajor.{row_major}
 use Rattle.zarrs_chunk_axes.proofs.RowMajor.{all_below}
 use Rattle.zarrs_chunk_base.specs.ArraySubset.{Box, IsInside}
 use Rattle.zarrs_chunk_base.specs.Dimension.{Dimension, InBox, IsPlace}
-use Rattle.zarrs_chunk_plan.proofs.read.Plans.{pair_of, pairs_by, source_of}
+use Rattle.zarrs_chunk_plan.proofs.Plans.{pair_of, pairs_by, source_of}
 use Rattle.zarrs_chunk_parts.specs.Plan.{HasElement, IsPart, IsPlan}
 use Rattle.zarrs_chunk_parts.specs.declared.part.Part.{Part}
 use Rattle.zarrs_chunks.specs.Walks.{chunks_in, counted_from}

@@ -12,8 +12,8 @@ use Rattle.zarrs_chunk_parts.specs.Plan.{AreShared, IsPart}
 use Rattle.zarrs_chunk_plan.specs.SomeParts.{AnswersNone, AnswersSome, AreSomeParts}
 use Rattle.zarrs_chunk_parts.specs.declared.part.Part.{Part}
 use Rattle.zarrs_chunk_plan.specs.declared.read.numbered_parts.SomeParts.{SomeParts}
-use Rattle.zarrs_chunk_plan.proofs.read.Plans.{empty_or_some, none_in_zeros}
-use Rattle.zarrs_chunk_plan.proofs.read.Taken.{none_taken}
+use Rattle.zarrs_chunk_plan.proofs.Plans.{empty_or_some, none_in_zeros}
+use Rattle.zarrs_chunk_plan.proofs.Taken.{none_taken}
 use Rattle.zarrs_chunk_prepared.specs.LookedUp.{HasNoCover, IsCoverOf}
 use Rattle.zarrs_chunk_batches.specs.Batch.{AreTexts}
 use Rattle.zarrs_chunk_batches.specs.Parts.{AreListsKept, IsPartAt, IsPlanWith}

@@ -15,7 +15,7 @@ use Rattle.zarrs_chunk_parts.specs.Plan.{Meets}
 use Rattle.zarrs_chunk_plan.specs.Rechunking.{array_box}
 use Rattle.zarrs_chunk_plan.specs.seen.Used.{UsesFirst}
 use Rattle.zarrs_chunk_plan.proofs.HeldBoxes.{hold_meets, meets_hold, some_chunks, uses_first, uses_none}
-use Rattle.zarrs_chunk_plan.proofs.read.Plans.{empty_or_some, not_empty_if_inside}
+use Rattle.zarrs_chunk_plan.proofs.Plans.{empty_or_some, not_empty_if_inside}
 
 pub none_below : (n : ℕ) → n ≢ 0 → (chunk : List ℕ) → ¬ IsInside (zero_box n) chunk
 none_below zero some chunk inside = some refl

@@ -12,8 +12,8 @@ use Rattle.zarrs_chunk_parts.specs.Plan.{IsCommon, Meets}
 use Rattle.zarrs_chunk_plan.specs.Rechunking.{array_box}
 use Rattle.zarrs_chunk_plan.specs.Resize.{HasElementOf}
 use Rattle.zarrs_chunk_plan.specs.seen.Used.{HoldsSome, UsesFirst}
-use Rattle.zarrs_chunk_plan.proofs.read.Plans.{not_empty_if_inside}
-use Rattle.zarrs_chunk_plan.proofs.copy.Rechunkings.{in_array}
+use Rattle.zarrs_chunk_plan.proofs.Plans.{not_empty_if_inside}
+use Rattle.zarrs_chunk_plan.proofs.Rechunkings.{in_array}
 
 -- a chunk that holds an element of the array does so in each dimension
 abbrev pub AllHoldSome : List Dimension → List ℕ → Type 0

@@ -4,7 +4,7 @@ use Rattle.zarrs_chunk_base.specs.ArraySubset.{AreWithin, Box, IsBox, IsEmptyBox
 use Rattle.zarrs_chunk_base.proofs.Boxes.{within_lengths}
 use Rattle.zarrs_chunks.specs.Walks.{chunks_in, counted_from}
 use Rattle.zarrs_chunk_plan.proofs.shares.Between.{none_below}
-use Rattle.zarrs_chunk_plan.proofs.read.Plans.{empty_or_some, not_empty_if_inside}
+use Rattle.zarrs_chunk_plan.proofs.Plans.{empty_or_some, not_empty_if_inside}
 use Rattle.zarrs_chunk_plan.proofs.counts.Written.{first_within}
 
 -- two ranges with the same numbers, of which there are some

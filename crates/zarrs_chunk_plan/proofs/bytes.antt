@@ -1,3 +1,2 @@
 pub mod RangeStarts
 pub mod StoredOrder
-pub mod StridedForms

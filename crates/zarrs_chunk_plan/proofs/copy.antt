@@ -1,10 +1,6 @@
 pub mod AskedChunks
-pub mod Copied
 pub mod CopyLists
 pub mod Exchanged
 pub mod Joined
 pub mod MarkedChunks
-pub mod MovedBoxes
-pub mod Rechunkings
 pub mod Regions
-pub mod SomeRegions

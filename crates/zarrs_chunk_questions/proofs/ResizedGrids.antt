@@ -12,7 +12,7 @@ use Rattle.zarrs_chunk_base.specs.declared.refusal.Refusal.{Refusal}
 use Rattle.zarrs_chunk_base.specs.declared.refusal.Refusal.TheVariants.{Memory}
 use Rattle.zarrs_chunks.specs.GridKinds.{GridKind, IsGridIn, grid_kind}
 use Rattle.zarrs_chunk_plan.specs.Resize.{AreResized}
-use Rattle.zarrs_chunk_plan.proofs.resize.OneConfiguration.{one_configuration}
+use Rattle.zarrs_chunk_plan.proofs.OneConfiguration.{one_configuration}
 use Rattle.zarrs_chunk_questions.specs.declared.line_fault.LineFault.{LineFault}
 
 -- a text has no members

@@ -20,7 +20,7 @@ use Rattle.zarrs_chunk_base.specs.ArraySubset.{Box}
 use Rattle.zarrs_chunk_plan.specs.Rechunking.{all_chunks_box}
 use Rattle.zarrs_chunk_plan.specs.SomeChunks.{AreSomeChunks}
 use Rattle.zarrs_chunk_plan.specs.declared.shares.numbered_chunks.SomeChunks.{SomeChunks}
-use Rattle.zarrs_chunk_plan.proofs.copy.Rechunkings.{counted_from_zeros}
+use Rattle.zarrs_chunk_plan.proofs.Rechunkings.{counted_from_zeros}
 use Rattle.zarrs_chunk_questions.specs.Pages.{chunks_from, first_page, is_more, item_trees, count_of, page_from, page_tree}
 use Rattle.zarrs_chunk_questions.specs.declared.call.WalkOf.{WalkOf}
 use Rattle.zarrs_chunk_questions.proofs.Listed.{numbers_are, wanted_chunks}

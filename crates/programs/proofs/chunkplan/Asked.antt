@@ -4,7 +4,7 @@ use Rattle.std.specs.List.{AllByRecursion}
 use Rattle.zarrs_chunk_base.specs.ArraySubset.{Box}
 use Rattle.zarrs_chunk_base.specs.Dimension.{Dimension, IsChain}
 use Rattle.zarrs_chunk_base.specs.Refusal.{TellsLengths}
-use Rattle.zarrs_chunk_plan.proofs.read.Clipped.{is_covered}
+use Rattle.zarrs_chunk_plan.proofs.Clipped.{is_covered}
 use Rattle.programs.specs.chunkplan.PlanFault.{IsReadFault}
 use Rattle.programs.specs.chunkplan.Planned.{IsAsked}
 use Rattle.programs.specs.declared.chunkplan.run_fault.RunFault.{RunFault}

@@ -14,11 +14,11 @@ use Rattle.zarrs_chunk_plan.specs.declared.shares.share.Share.{Share}
 use Rattle.zarrs_chunk_plan.specs.declared.read.walk.Parts.{Parts}
 use Rattle.zarrs_chunk_plan.specs.seen.Copies.{IsAboutCopies, first_of, region_of, target_of, targets_to_come}
 use Rattle.zarrs_chunk_plan.specs.seen.Parts.{HasKeys, IsAbout, chunks_to_come}
-use Rattle.zarrs_chunk_plan.proofs.copy.Copied.{MovesHaveCome}
-use Rattle.zarrs_chunk_plan.proofs.shares.ShareLists.{all_of_share, both_zipped, of_all}
-use Rattle.zarrs_chunk_plan.proofs.read.SomePlan.{have_parts}
-use Rattle.zarrs_chunk_plan.proofs.copy.SomeRegions.{have_moves}
-use Rattle.zarrs_chunk_plan.proofs.read.Walked.{HaveCome}
+use Rattle.zarrs_chunk_plan.proofs.Copied.{MovesHaveCome}
+use Rattle.zarrs_chunk_plan.proofs.ShareLists.{all_of_share, both_zipped, of_all}
+use Rattle.zarrs_chunk_plan.proofs.SomePlan.{have_parts}
+use Rattle.zarrs_chunk_plan.proofs.SomeRegions.{have_moves}
+use Rattle.zarrs_chunk_plan.proofs.Walked.{HaveCome}
 use Rattle.zarrs_chunks.specs.declared.chunk_grid.named.ChunkGrid.{ChunkGrid}
 use Rattle.zarrs_chunks.specs.seen.Grids.{chained_in}
 use Rattle.programs.specs.chunkplan.seen.Opened.{CanGiveCopies, CanGiveParts, CopiesToCome, PartsToCome, dimensions_in, key_in}

@@ -13,9 +13,9 @@ use Rattle.zarrs_chunk_plan.specs.seen.Copies.{IsCopiesFault}
 use Rattle.zarrs_chunk_parts.specs.declared.part.Part.{Part}
 use Rattle.zarrs_chunk_plan.specs.declared.stored_array.StoredArray.{StoredArray}
 use Rattle.zarrs_chunk_plan.specs.seen.ReadCounts.{AreCountsOf}
-use Rattle.zarrs_chunk_plan.proofs.read.Plans.{empty_or_some}
-use Rattle.zarrs_chunk_plan.proofs.read.SomePlan.{plan_over}
-use Rattle.zarrs_chunk_plan.proofs.copy.SomeRegions.{have_copy, have_rechunking}
+use Rattle.zarrs_chunk_plan.proofs.Plans.{empty_or_some}
+use Rattle.zarrs_chunk_plan.proofs.SomePlan.{plan_over}
+use Rattle.zarrs_chunk_plan.proofs.SomeRegions.{have_copy, have_rechunking}
 use Rattle.zarrs_chunks.specs.declared.chunk_grid.named.ChunkGrid.{ChunkGrid}
 use Rattle.zarrs_chunks.specs.seen.Grids.{chained_in}
 use Rattle.programs.specs.chunkplan.PlanFault.{IsChunksFault}

@@ -8,8 +8,8 @@ use Rattle.zarrs_chunk_parts.specs.Plan.{IsPart, IsPlan}
 use Rattle.zarrs_chunk_parts.specs.declared.part.Part.{Part}
 use Rattle.zarrs_chunk_plan.specs.declared.read.walk.Parts.{Parts}
 use Rattle.zarrs_chunk_plan.specs.seen.Parts.{ArePartsToCome, IsAbout, chunks_to_come}
-use Rattle.zarrs_chunk_plan.proofs.read.Taken.{no_parts}
-use Rattle.zarrs_chunk_plan.proofs.read.Walked.{plan_of}
+use Rattle.zarrs_chunk_plan.proofs.Taken.{no_parts}
+use Rattle.zarrs_chunk_plan.proofs.Walked.{plan_of}
 use Rattle.programs.specs.chunkplan.Planned.{IsReadPlan}
 
 pub is_read_plan : {G E : Type 0} (dimensions : G → List Dimension) (is_key : E → List ℕ → List ℕ → Type 0) (grid : G) (encoding : E) (subset : Box)

@@ -15,7 +15,7 @@ use Rattle.zarrs_chunk_plan.specs.declared.copy.chunk_copies.Copies.{Copies}
 use Rattle.zarrs_chunk_plan.specs.declared.shares.share.Share.{Share}
 use Rattle.zarrs_chunk_plan.specs.declared.copy.stored_chunks.StoredChunks.{StoredChunks}
 use Rattle.zarrs_chunk_plan.specs.seen.StoredChunks.{Knows, is_stored}
-use Rattle.zarrs_chunk_plan.proofs.shares.ByNumber.{counted_cases}
+use Rattle.zarrs_chunk_plan.proofs.ByNumber.{counted_cases}
 use Rattle.zarrs_chunks.specs.declared.chunk_grid.named.ChunkGrid.{ChunkGrid}
 use Rattle.programs.specs.chunkplan.Document.{Document, lines_wanted}
 use Rattle.programs.specs.chunkplan.PlanFault.{IsFaultBeside, of_keys}

@@ -6,7 +6,7 @@ use Rattle.zarrs_chunks.proofs.ChunksInBoxes.{made_of as among_mapped, source_of
 use Rattle.zarrs_chunk_plan.specs.Rechunking.{Group, copies_of}
 use Rattle.zarrs_chunk_parts.specs.declared.part.Part.{Part}
 use Rattle.zarrs_chunk_plan.proofs.copy.Joined.{in_joined, in_some, pairs_joined, pairs_mapped}
-use Rattle.zarrs_chunk_plan.proofs.read.Plans.{pairs_of, source_of}
+use Rattle.zarrs_chunk_plan.proofs.Plans.{pairs_of, source_of}
 
 -- what follows for two members of a list from what holds of each two
 pub pairs_follow : {X : Type 0} (P Q : X → X → Type 0) (xs : List X) → AllPairs P xs

@@ -14,9 +14,9 @@ use Rattle.zarrs_chunk_plan.specs.Rechunking.{AreCopiesInto, Group, IsExchanged,
 use Rattle.zarrs_chunk_plan.specs.Region.{IsCopy}
 use Rattle.zarrs_chunk_parts.specs.declared.part.Part.{Part}
 use Rattle.zarrs_chunk_plan.proofs.copy.CopyLists.{Differ, copy_in, copy_of, pairs_follow}
-use Rattle.zarrs_chunk_plan.proofs.read.Plans.{added, all_long, chunk_of, counted_once, length_counted, not_empty, pair_of, part_of}
+use Rattle.zarrs_chunk_plan.proofs.Plans.{added, all_long, chunk_of, counted_once, length_counted, not_empty, pair_of, part_of}
 use Rattle.zarrs_chunk_plan.proofs.copy.Regions.{differ_all}
-use Rattle.zarrs_chunk_plan.proofs.copy.Rechunkings.{in_array, is_counted, read_there, shared_start, those_are}
+use Rattle.zarrs_chunk_plan.proofs.Rechunkings.{in_array, is_counted, read_there, shared_start, those_are}
 use Rattle.zarrs_chunk_plan.proofs.SameBoxes.{same_box_of}
 
 -- a chunk has one origin

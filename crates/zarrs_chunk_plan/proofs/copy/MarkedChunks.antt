@@ -22,7 +22,7 @@ use Rattle.zarrs_chunk_plan.specs.Rechunking.{array_box}
 use Rattle.zarrs_chunk_plan.specs.StoredChunks.{IsListed, IsOfArray}
 use Rattle.zarrs_chunk_plan.specs.declared.copy.stored_chunks.StoredChunks.{StoredChunks}
 use Rattle.zarrs_chunk_plan.specs.seen.StoredChunks.{IsMarked, Knows, is_stored}
-use Rattle.zarrs_chunk_plan.proofs.shares.ByNumber.{at_digit, at_most_times, length-behind}
+use Rattle.zarrs_chunk_plan.proofs.ByNumber.{at_digit, at_most_times, length-behind}
 
 -- ---- a bit of a list of numbers
 

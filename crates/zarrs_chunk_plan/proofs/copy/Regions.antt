@@ -17,9 +17,9 @@ use Rattle.zarrs_chunk_plan.specs.Rechunking.{Group, copies_of}
 use Rattle.zarrs_chunk_plan.specs.Region.{AreMovedInto, IsCopy, IsRegionCopy, MovesTo, moved, shifted}
 use Rattle.zarrs_chunk_parts.specs.declared.part.Part.{Part}
 use Rattle.zarrs_chunk_plan.proofs.copy.CopyLists.{Differ, copies_differ, copy_in, copy_of, pairs_follow}
-use Rattle.zarrs_chunk_plan.proofs.copy.MovedBoxes.{within_below}
-use Rattle.zarrs_chunk_plan.proofs.read.Plans.{added, all_long, chunk_of, counted_once, has_common, has_place, length_counted, not_empty, pair_of, parts_differ, place_below}
-use Rattle.zarrs_chunk_plan.proofs.read.Plans.{one_chunk, pairs_of, some_part, source_of, takes}
+use Rattle.zarrs_chunk_plan.proofs.MovedBoxes.{within_below}
+use Rattle.zarrs_chunk_plan.proofs.Plans.{added, all_long, chunk_of, counted_once, has_common, has_place, length_counted, not_empty, pair_of, parts_differ, place_below}
+use Rattle.zarrs_chunk_plan.proofs.Plans.{one_chunk, pairs_of, some_part, source_of, takes}
 use Rattle.zarrs_chunk_plan.proofs.counts.Written.{last_within}
 
 -- ---- lists of numbers

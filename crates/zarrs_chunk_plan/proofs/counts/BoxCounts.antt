@@ -5,7 +5,7 @@ use Rattle.zarrs_chunk_axes.specs.RowMajor.{row_major}
 use Rattle.zarrs_chunks.specs.Walks.{chunks_in}
 use Rattle.zarrs_chunks.proofs.ChunksInBoxes.{are_those_inside, chunks_once}
 use Rattle.zarrs_chunk_plan.specs.Counts.{AreMany, product}
-use Rattle.zarrs_chunk_plan.proofs.shares.ByNumber.{as_many, length-shape}
+use Rattle.zarrs_chunk_plan.proofs.ByNumber.{as_many, length-shape}
 
 -- as many lists are below a shape as the product of its numbers
 pub below_shape : (shape : List ℕ) → length (row_major shape) ≡ product shape

@@ -19,10 +19,10 @@ use Rattle.zarrs_chunk_plan.specs.seen.Sources.{AreTaking, counters, met_in, met
 use Rattle.zarrs_chunk_plan.specs.seen.TargetCounts.{AreTargetCounts, met_by_each}
 use Rattle.zarrs_chunk_plan.proofs.copy.CopyLists.{copy_of}
 use Rattle.zarrs_chunk_plan.proofs.counts.MetCovers.{as_many_counters, met_of_cover}
-use Rattle.zarrs_chunk_plan.proofs.copy.MovedBoxes.{can_stay, within_below}
-use Rattle.zarrs_chunk_plan.proofs.read.Plans.{all_of_each, chunk_of, not_empty, takes}
+use Rattle.zarrs_chunk_plan.proofs.MovedBoxes.{can_stay, within_below}
+use Rattle.zarrs_chunk_plan.proofs.Plans.{all_of_each, chunk_of, not_empty, takes}
 use Rattle.zarrs_chunk_plan.proofs.counts.Products.{met_by_all, sum_of_products}
-use Rattle.zarrs_chunk_plan.proofs.copy.Rechunkings.{same_place}
+use Rattle.zarrs_chunk_plan.proofs.Rechunkings.{same_place}
 use Rattle.zarrs_chunk_plan.proofs.copy.Regions.{is_copy_of, moves_only, moves_region, read_is_box, some_copy}
 use Rattle.zarrs_chunk_plan.proofs.SameBoxes.{chunks_of_same}
 use Rattle.std.proofs.lemmas.List.{length-map}

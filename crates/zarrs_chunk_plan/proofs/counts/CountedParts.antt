@@ -16,7 +16,7 @@ use Rattle.zarrs_chunk_plan.specs.declared.counts.of_plans.Counts.{Counts}
 use Rattle.zarrs_chunk_parts.specs.declared.part.Part.{Part}
 use Rattle.zarrs_chunk_plan.proofs.counts.BoxCounts.{box_many, in_box_many, product_of_none}
 use Rattle.zarrs_chunk_plan.proofs.counts.MetCovers.{zeros_none}
-use Rattle.zarrs_chunk_plan.proofs.read.Plans.{chunk_of, has_common, part_of, some_part}
+use Rattle.zarrs_chunk_plan.proofs.Plans.{chunk_of, has_common, part_of, some_part}
 use Rattle.zarrs_chunk_plan.proofs.SameBoxes.{chunks_of_same}
 
 -- the product of numbers that are cut at 1 is that of the numbers, cut at 1

@@ -21,7 +21,7 @@ use Rattle.zarrs_chunk_plan.specs.declared.resize.plan.Change.{Change}
 use Rattle.zarrs_chunk_plan.specs.declared.resize.plan.Held.{Held}
 use Rattle.zarrs_chunk_plan.specs.seen.Changes.{what_becomes}
 use Rattle.zarrs_chunk_plan.specs.seen.Outside.{chunks_of_boxes}
-use Rattle.zarrs_chunk_plan.proofs.shares.ByNumber.{as_many, counted_cases, length-shape}
+use Rattle.zarrs_chunk_plan.proofs.ByNumber.{as_many, counted_cases, length-shape}
 use Rattle.zarrs_chunk_plan.proofs.shares.Between.{none_below}
 use Rattle.zarrs_chunk_plan.proofs.shares.Ranks.{times_le}
 

@@ -9,8 +9,8 @@ use Rattle.zarrs_chunk_axes.specs.InBounds.{AreBelow}
 use Rattle.zarrs_chunk_plan.specs.Resize.{AreResized, HasElementOf, IsKept, IsResized, IsUsed}
 use Rattle.zarrs_chunk_plan.specs.seen.Used.{HasExtent, HasExtentAlong, HoldsSome, KeepsAlong, KeptAlong}
 use Rattle.zarrs_chunk_plan.proofs.HeldBoxes.{AllHoldSome, meets_hold}
-use Rattle.zarrs_chunk_plan.proofs.copy.Rechunkings.{in_array}
-use Rattle.zarrs_chunk_plan.proofs.read.SomePlan.{has_shape}
+use Rattle.zarrs_chunk_plan.proofs.Rechunkings.{in_array}
+use Rattle.zarrs_chunk_plan.proofs.SomePlan.{has_shape}
 
 -- ---- one dimension
 

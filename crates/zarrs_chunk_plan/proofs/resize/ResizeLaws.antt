@@ -14,9 +14,9 @@ use Rattle.zarrs_chunk_plan.specs.declared.resize.plan.ChunkChange.{ChunkChange}
 use Rattle.zarrs_chunk_plan.specs.seen.Used.{KeptAlong}
 use Rattle.zarrs_chunk_plan.proofs.resize.Kept.{is_used, kept_is_all, kept_used, same_start}
 use Rattle.zarrs_chunk_plan.proofs.HeldBoxes.{AllHoldSome, hold_some}
-use Rattle.zarrs_chunk_plan.proofs.read.Plans.{pair_of, pairs_of, source_of}
-use Rattle.zarrs_chunk_plan.proofs.read.SomePlan.{chunk_fits}
-use Rattle.zarrs_chunk_plan.proofs.resize.SomeResizes.{array_is_box}
+use Rattle.zarrs_chunk_plan.proofs.Plans.{pair_of, pairs_of, source_of}
+use Rattle.zarrs_chunk_plan.proofs.SomePlan.{chunk_fits}
+use Rattle.zarrs_chunk_plan.proofs.SomeResizes.{array_is_box}
 
 -- ---- a chunk that begins where it did
 

@@ -7,7 +7,7 @@ use Rattle.std.proofs.lemmas.Nat.{div-mul-add, le-div}
 use Rattle.zarrs_chunk_base.specs.Greatest.{greatest}
 use Rattle.zarrs_chunk_plan.specs.Counted.{counted}
 use Rattle.zarrs_chunk_plan.specs.Shares.{before_share}
-use Rattle.zarrs_chunk_plan.proofs.shares.ByNumber.{counted_cases}
+use Rattle.zarrs_chunk_plan.proofs.ByNumber.{counted_cases}
 use Rattle.zarrs_chunk_plan.proofs.shares.Ranks.{times_le}
 
 -- all come before the end of the last one

@@ -15,7 +15,7 @@ use Rattle.zarrs_chunks.proofs.ChunksInBoxes.{length_below, written}
 use Rattle.zarrs_chunk_plan.specs.Shares.{before_share, between, share_of}
 use Rattle.zarrs_chunk_plan.specs.declared.shares.share.Share.{Share}
 use Rattle.zarrs_chunk_plan.specs.seen.Between.{IsEnd, end_rank, lists_between, rank}
-use Rattle.zarrs_chunk_plan.proofs.shares.ByNumber.{some_size}
+use Rattle.zarrs_chunk_plan.proofs.ByNumber.{some_size}
 use Rattle.zarrs_chunk_plan.proofs.shares.Ranks.{drop_rank, rank_next, rank_same, rank_within}
 
 -- a box with a range of no numbers has no chunks

@@ -12,9 +12,9 @@ use Rattle.zarrs_chunks.specs.Walks.{chunks_in, counted_from}
 use Rattle.zarrs_chunks.proofs.ChunksInBoxes.{length_below}
 use Rattle.zarrs_chunk_plan.specs.Shares.{between}
 use Rattle.zarrs_chunk_plan.specs.seen.Between.{rank}
-use Rattle.zarrs_chunk_plan.proofs.shares.ByNumber.{some_of}
+use Rattle.zarrs_chunk_plan.proofs.ByNumber.{some_of}
 use Rattle.zarrs_chunk_plan.proofs.shares.Ranks.{drop_rank, rank_within}
-use Rattle.zarrs_chunk_plan.proofs.copy.Rechunkings.{counted_from_zeros}
+use Rattle.zarrs_chunk_plan.proofs.Rechunkings.{counted_from_zeros}
 
 -- a list stands at one place
 one_place : (shape numbers : List ℕ) (i j : ℕ) → i < length (row_major shape) → j < length (row_major shape)

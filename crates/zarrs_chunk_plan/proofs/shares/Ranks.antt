@@ -10,7 +10,7 @@ use Rattle.zarrs_chunk_axes.specs.RowMajor.{row_major, rows}
 use Rattle.zarrs_chunk_axes.specs.seen.Counting.{after}
 use Rattle.zarrs_chunks.proofs.Covers.{head_some, tail_some}
 use Rattle.zarrs_chunk_plan.specs.seen.Between.{digits, rank}
-use Rattle.zarrs_chunk_plan.proofs.shares.ByNumber.{length-shape}
+use Rattle.zarrs_chunk_plan.proofs.ByNumber.{length-shape}
 
 -- ---- the place of a list
 

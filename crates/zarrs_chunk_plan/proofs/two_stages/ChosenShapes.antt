@@ -22,7 +22,7 @@ use Rattle.zarrs_chunk_plan.specs.declared.two_stages.fewest.Edge.{Edge}
 use Rattle.zarrs_chunk_plan.specs.seen.Stages.{AllAscend, AreRows, Ascend, IsChoice, IsFewest, edge_of, held, reads_of}
 use Rattle.zarrs_chunk_plan.proofs.two_stages.EdgesTried.{only_ones, tried_long}
 use Rattle.zarrs_chunk_plan.proofs.two_stages.EqualChunks.{one_box, sizes_are}
-use Rattle.zarrs_chunk_plan.proofs.read.Plans.{empty_or_some, not_empty_if_inside}
+use Rattle.zarrs_chunk_plan.proofs.Plans.{empty_or_some, not_empty_if_inside}
 use Rattle.zarrs_chunk_plan.proofs.shares.Between.{none_below}
 use Rattle.zarrs_chunk_plan.proofs.two_stages.StageReads.{chosen_from, length_of, reads_are}
 use Rattle.zarrs_chunk_plan.proofs.counts.Written.{first_within}

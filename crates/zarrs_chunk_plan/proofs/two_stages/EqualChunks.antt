@@ -12,7 +12,7 @@ use Rattle.zarrs_chunk_axes.specs.InBounds.{AreBelow}
 use Rattle.zarrs_chunk_parts.specs.Plan.{Meets}
 use Rattle.zarrs_chunk_plan.specs.Rechunking.{all_chunks_box, array_box}
 use Rattle.zarrs_chunk_plan.specs.Stages.{NoneIsLonger}
-use Rattle.zarrs_chunk_plan.proofs.copy.Rechunkings.{from_zero, in_array}
+use Rattle.zarrs_chunk_plan.proofs.Rechunkings.{from_zero, in_array}
 
 -- ---- one dimension
 

@@ -10,7 +10,7 @@ use Rattle.zarrs_chunk_plan.specs.Stages.{HoldAtMost, NoneIsLonger}
 use Rattle.zarrs_chunk_parts.specs.declared.part.Part.{Part}
 use Rattle.zarrs_chunk_plan.proofs.two_stages.EqualChunks.{one_box}
 use Rattle.zarrs_chunk_plan.proofs.copy.Exchanged.{what_it_is_of}
-use Rattle.zarrs_chunk_plan.proofs.copy.Rechunkings.{those_are}
+use Rattle.zarrs_chunk_plan.proofs.Rechunkings.{those_are}
 
 product_least : (shape edges : List ℕ) → AllZip ◌≤◌ shape edges → product shape ≤ product edges
 product_least [] [] less = omega arith

@@ -14,7 +14,7 @@ use Rattle.zarrs_chunk_plan.specs.Rechunking.{array_box}
 use Rattle.zarrs_chunk_plan.specs.Stages.{AreUsed, HasManyChunks, IsLargest}
 use Rattle.zarrs_chunk_plan.specs.seen.Used.{HoldsSome, IsLongest, UsesFirst}
 use Rattle.zarrs_chunk_plan.proofs.HeldBoxes.{AllHoldSome, hold_meets, meets_hold}
-use Rattle.zarrs_chunk_plan.proofs.read.Plans.{not_empty_if_inside}
+use Rattle.zarrs_chunk_plan.proofs.Plans.{not_empty_if_inside}
 use Rattle.zarrs_chunk_plan.proofs.counts.RegularDimensions.{regular_start}
 
 -- ---- one dimension

@@ -11,7 +11,7 @@ use Rattle.zarrs_chunks.proofs.FittingChunks.{counted_home}
 use Rattle.zarrs_chunk_plan.specs.Rechunking.{Goes, Group, IsRechunking, Moves, all_chunks_box, array_box, copies_of}
 use Rattle.zarrs_chunk_plan.specs.Region.{IsCopy}
 use Rattle.zarrs_chunk_parts.specs.declared.part.Part.{Part}
-use Rattle.zarrs_chunk_plan.proofs.copy.Rechunkings.{in_array, is_counted, keys_of_copy, moves_elements, some_copy_into}
+use Rattle.zarrs_chunk_plan.proofs.Rechunkings.{in_array, is_counted, keys_of_copy, moves_elements, some_copy_into}
 
 -- an index has one place in a chunk
 one_place : (ds : List Dimension) (chunk index one other : List ℕ) → IsPlace ds chunk index one → IsPlace ds chunk index other → one ≡ other

@@ -21,7 +21,7 @@ use Rattle.zarrs_chunk_plan.specs.seen.Used.{UsesFirst}
 use Rattle.zarrs_chunk_plan.proofs.counts.CountedCopies.{are_taking, copies_many}
 use Rattle.zarrs_chunk_plan.proofs.two_stages.EqualChunks.{are_chains, counted_meet, first_held, one_box, sizes_are}
 use Rattle.zarrs_chunk_plan.proofs.HeldBoxes.{some_chunk}
-use Rattle.zarrs_chunk_plan.proofs.copy.Rechunkings.{is_counted}
+use Rattle.zarrs_chunk_plan.proofs.Rechunkings.{is_counted}
 use Rattle.zarrs_chunk_plan.proofs.SameBoxes.{same_box_of}
 
 -- ---- lists

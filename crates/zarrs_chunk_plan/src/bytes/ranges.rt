@@ -104,7 +104,7 @@ fn in_order(alloc: Global, numbers: &[u64], order: MemoryOrder) -> Result<Vec<u6
 ///
 /// # Errors
 /// Out of memory.
-#[tactic(auto, using(crate::proofs::copy::MovedBoxes::within_long, crate::proofs::copy::MovedBoxes::within_starts, crate::proofs::bytes::StridedForms::at_each))]
+#[tactic(auto, using(crate::proofs::MovedBoxes::within_long, crate::proofs::MovedBoxes::within_starts, crate::proofs::StridedForms::at_each))]
 fn some_ranges(
     alloc: Global,
     edges: &[u64],

@@ -1,8 +1,8 @@
 use Rattle.std.proofs.Common.{[], ◌∷◌, ◌++◌, ◌∙◌, ap, inl, refl, subst, sym}
 use Rattle.std.proofs.lemmas.Slice.Zip.{all_zipped_more}
 use Rattle.std.specs.List.{AllZip}
-use Rattle.zarrs_chunk_plan.proofs.read.Taken.{no_parts}
-use Rattle.zarrs_chunk_plan.proofs.read.Walked.{IsPartOf, at_first, at_last, one_more, plan_of}
+use Rattle.zarrs_chunk_plan.proofs.Taken.{no_parts}
+use Rattle.zarrs_chunk_plan.proofs.Walked.{IsPartOf, at_first, at_last, one_more, plan_of}
 use Rattle.zarrs_chunk_plan.specs.seen.Parts.{IsAbout, MeetSubset, chunks_to_come}
 use Rattle.callers.specs.Reading.{IsRead}
 use Rattle.callers.proofs.Pieces.{are_pieces}

@@ -1,6 +1,6 @@
 use Rattle.std.proofs.Common.{List}
 use Rattle.std.specs.List.{AllZip}
-use Rattle.zarrs_chunk_plan.proofs.read.Walked.{HaveCome}
+use Rattle.zarrs_chunk_plan.proofs.Walked.{HaveCome}
 use Rattle.zarrs_chunk_parts.specs.declared.part.Part.{Part}
 use Rattle.callers.specs.Reading.{IsRead}
 use Rattle.callers.proofs.reading.read_box.Given as goal

@@ -2,7 +2,7 @@ use Rattle.std.proofs.Common.{[], ◌++◌, ◌∙◌, ap, append-nil, refl, sub
 use Rattle.std.specs.List.{AllZip}
 use Rattle.zarrs_chunks.specs.Walks.{chunks_in}
 use Rattle.zarrs_chunks.specs.seen.Walks.{chunks_in_left}
-use Rattle.zarrs_chunk_plan.proofs.read.Walked.{one_came}
+use Rattle.zarrs_chunk_plan.proofs.Walked.{one_came}
 use Rattle.callers.proofs.reading.read_part.Goals as goal
 
 pub loop-place-init : goal.loop-place-init

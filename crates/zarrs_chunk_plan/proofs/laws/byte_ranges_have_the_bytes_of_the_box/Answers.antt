@@ -1,4 +1,4 @@
-use Rattle.zarrs_chunk_plan.proofs.bytes.StridedForms.{form_tells}
+use Rattle.zarrs_chunk_plan.proofs.StridedForms.{form_tells}
 use Rattle.zarrs_chunk_plan.proofs.laws.byte_ranges_have_the_bytes_of_the_box.Goals as goal
 
 pub returns : goal.returns

@@ -1,4 +1,4 @@
-use Rattle.zarrs_chunk_plan.proofs.copy.Rechunkings.{keys_of_copy, moves_elements, no_other_copy, some_copy_into}
+use Rattle.zarrs_chunk_plan.proofs.Rechunkings.{keys_of_copy, moves_elements, no_other_copy, some_copy_into}
 use Rattle.zarrs_chunk_plan.proofs.copy.Regions.{of_one_shape}
 use Rattle.zarrs_chunk_plan.proofs.laws.each_element_is_copied_once.Goals as goal
 

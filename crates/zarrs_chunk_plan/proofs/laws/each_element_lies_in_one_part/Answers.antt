@@ -1,4 +1,4 @@
-use Rattle.zarrs_chunk_plan.proofs.read.Plans.{has_place, no_other_part, some_part}
+use Rattle.zarrs_chunk_plan.proofs.Plans.{has_place, no_other_part, some_part}
 use Rattle.zarrs_chunk_plan.proofs.laws.each_element_lies_in_one_part.Goals as goal
 
 pub returns-clause-one : goal.returns-clause-one

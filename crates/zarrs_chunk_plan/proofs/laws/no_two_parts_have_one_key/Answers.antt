@@ -1,4 +1,4 @@
-use Rattle.zarrs_chunk_plan.proofs.read.Plans.{keys_differ}
+use Rattle.zarrs_chunk_plan.proofs.Plans.{keys_differ}
 use Rattle.zarrs_chunk_plan.proofs.laws.no_two_parts_have_one_key.Goals as goal
 
 pub returns : goal.returns

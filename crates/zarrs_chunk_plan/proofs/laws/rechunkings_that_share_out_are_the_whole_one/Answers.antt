@@ -1,4 +1,4 @@
-use Rattle.zarrs_chunk_plan.proofs.copy.Rechunkings.{no_other_copy_of_all, some_copy_of_all}
+use Rattle.zarrs_chunk_plan.proofs.Rechunkings.{no_other_copy_of_all, some_copy_of_all}
 use Rattle.zarrs_chunk_plan.proofs.laws.rechunkings_that_share_out_are_the_whole_one.Goals as goal
 
 pub returns-clause-one : goal.returns-clause-one

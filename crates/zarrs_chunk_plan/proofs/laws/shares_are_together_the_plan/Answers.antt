@@ -1,4 +1,4 @@
-use Rattle.zarrs_chunk_plan.proofs.shares.ShareLists.{shares_are_all}
+use Rattle.zarrs_chunk_plan.proofs.ShareLists.{shares_are_all}
 use Rattle.zarrs_chunk_plan.proofs.laws.shares_are_together_the_plan.Goals as goal
 
 pub returns-clause-of_a_read : goal.returns-clause-of_a_read

@@ -1,4 +1,4 @@
-use Rattle.zarrs_chunk_plan.proofs.read.Plans.{none_empty, tiles_all, tiles_apart}
+use Rattle.zarrs_chunk_plan.proofs.Plans.{none_empty, tiles_all, tiles_apart}
 use Rattle.zarrs_chunk_plan.proofs.laws.the_parts_tile_the_box.Goals as goal
 
 pub returns-clause-all : goal.returns-clause-all

@@ -1,5 +1,5 @@
-use Rattle.zarrs_chunk_plan.proofs.read.Taken.{no_parts}
-use Rattle.zarrs_chunk_plan.proofs.read.Walked.{all_to_come, plan_of}
+use Rattle.zarrs_chunk_plan.proofs.Taken.{no_parts}
+use Rattle.zarrs_chunk_plan.proofs.Walked.{all_to_come, plan_of}
 use Rattle.zarrs_chunk_plan.proofs.laws.the_walk_gives_the_plan.Goals as goal
 
 pub returns-clause-to_come : goal.returns-clause-to_come

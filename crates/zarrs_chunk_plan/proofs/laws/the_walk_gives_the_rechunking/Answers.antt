@@ -1,5 +1,5 @@
-use Rattle.zarrs_chunk_plan.proofs.copy.Copied.{copy_of}
-use Rattle.zarrs_chunk_plan.proofs.copy.MovedBoxes.{can_stay}
+use Rattle.zarrs_chunk_plan.proofs.Copied.{copy_of}
+use Rattle.zarrs_chunk_plan.proofs.MovedBoxes.{can_stay}
 use Rattle.zarrs_chunk_plan.proofs.laws.the_walk_gives_the_rechunking.Goals as goal
 
 pub returns : goal.returns

@@ -1,4 +1,4 @@
-use Rattle.zarrs_chunk_plan.proofs.resize.SomeResizes.{all_changes_to_come}
+use Rattle.zarrs_chunk_plan.proofs.SomeResizes.{all_changes_to_come}
 use Rattle.zarrs_chunk_plan.proofs.laws.the_walk_gives_the_resize.Goals as goal
 
 pub returns-clause-to_come : goal.returns-clause-to_come

@@ -2,7 +2,7 @@ use Rattle.zarrs_chunk_keys.specs.ChunkKey.{IsKey}
 use Rattle.zarrs_chunk_keys.specs.seen.Encodings.{encoding_in}
 use Rattle.zarrs_chunk_keys.proofs.OneKey.{has_key}
 use Rattle.zarrs_chunks.specs.seen.Grids.{chained_in, grid_in}
-use Rattle.zarrs_chunk_plan.proofs.copy.SomeRegions.{have_rechunking}
+use Rattle.zarrs_chunk_plan.proofs.SomeRegions.{have_rechunking}
 use Rattle.zarrs_chunk_questions.proofs.counting.counts_of_copies.Goals as goal
 
 pub returns-in_ok-counts_tree-in-Ok : goal.returns-in_ok-counts_tree-in-Ok

@@ -3,7 +3,7 @@ use Rattle.zarrs_chunk_keys.specs.seen.Encodings.{encoding_in}
 use Rattle.zarrs_chunk_keys.proofs.OneKey.{has_key}
 use Rattle.zarrs_chunks.specs.seen.Grids.{chained_in, grid_in}
 use Rattle.zarrs_chunk_plan.specs.Region.{AnyChunk}
-use Rattle.zarrs_chunk_plan.proofs.copy.SomeRegions.{have_copy}
+use Rattle.zarrs_chunk_plan.proofs.SomeRegions.{have_copy}
 use Rattle.zarrs_chunk_questions.proofs.counting.counts_of_moves.Goals as goal
 
 pub returns-in_ok-counts_tree-in-Ok : goal.returns-in_ok-counts_tree-in-Ok

@@ -1,7 +1,7 @@
 use Rattle.std.proofs.Common.{◌≡◌, ◌≤◌, ◌++◌, [], ◌∷◌, ap, length, map, refl, rules, arith}
 use Rattle.serde_json.specs.View.{view}
 use Rattle.zarrs_chunk_plan.specs.seen.Copies.{targets_to_come}
-use Rattle.zarrs_chunk_plan.proofs.copy.Copied.{first_move, one_more_move}
+use Rattle.zarrs_chunk_plan.proofs.Copied.{first_move, one_more_move}
 use Rattle.zarrs_chunk_questions.specs.seen.Groups.{IsGroupIn}
 use Rattle.zarrs_chunk_questions.proofs.GroupPages.{all_came, as_many_came, as_many_trees, one_tree_more}
 use Rattle.zarrs_chunk_questions.proofs.groups.group_trees.Goals as goal

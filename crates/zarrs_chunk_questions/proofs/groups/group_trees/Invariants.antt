@@ -1,7 +1,7 @@
 use Rattle.std.proofs.Common.{◌≡◌, ◌-◌, ◌≤◌, List, length, map}
 use Rattle.serde_json.specs.View.{view}
 use Rattle.zarrs_chunk_plan.specs.Rechunking.{Group}
-use Rattle.zarrs_chunk_plan.proofs.copy.Copied.{MovesHaveCome}
+use Rattle.zarrs_chunk_plan.proofs.Copied.{MovesHaveCome}
 use Rattle.zarrs_chunk_questions.specs.seen.Groups.{tree_in}
 use Rattle.zarrs_chunk_questions.proofs.groups.group_trees.Given as goal
 

@@ -1,7 +1,7 @@
 use Rattle.std.proofs.Common.{◌≡◌, ◌∙◌, ◌-◌, ap, drop, length, min, rules, arith}
 use Rattle.zarrs_chunk_base.specs.Greatest.{greatest}
 use Rattle.zarrs_chunk_plan.specs.seen.Copies.{all_targets, targets_to_come}
-use Rattle.zarrs_chunk_plan.proofs.shares.ByNumber.{counted_most}
+use Rattle.zarrs_chunk_plan.proofs.ByNumber.{counted_most}
 use Rattle.zarrs_chunk_questions.specs.Pages.{count_of}
 use Rattle.zarrs_chunk_questions.specs.seen.Groups.{IsGroupIn}
 use Rattle.zarrs_chunk_questions.proofs.GroupPages.{groups_page, same_groups, still_moves}

@@ -1,4 +1,4 @@
-use Rattle.zarrs_chunk_plan.proofs.read.Walked.{at_first, at_last, one_more}
+use Rattle.zarrs_chunk_plan.proofs.Walked.{at_first, at_last, one_more}
 use Rattle.zarrs_chunk_questions.proofs.groups.parts_below.Goals as goal
 
 pub loop-part-init : goal.loop-part-init

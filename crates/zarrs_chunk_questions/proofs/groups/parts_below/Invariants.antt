@@ -1,4 +1,4 @@
-use Rattle.zarrs_chunk_plan.proofs.read.Walked.{HaveCome}
+use Rattle.zarrs_chunk_plan.proofs.Walked.{HaveCome}
 use Rattle.zarrs_chunk_questions.proofs.groups.parts_below.Given as goal
 
 -- the parts so far are those of the chunks that came

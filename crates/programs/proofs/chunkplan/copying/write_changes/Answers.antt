@@ -4,7 +4,7 @@ use Rattle.std.specs.List.{AllZip}
 use Rattle.zarrs_chunk_plan.specs.Counted.{counted}
 use Rattle.zarrs_chunk_plan.specs.declared.resize.plan.ChunkChange.{ChunkChange}
 use Rattle.zarrs_chunk_plan.specs.seen.Changes.{all_changes, changes_to_come}
-use Rattle.zarrs_chunk_plan.proofs.resize.SomeResizes.{IsChangeOf, changes_ahead, first_change, last_change, one_more_change}
+use Rattle.zarrs_chunk_plan.proofs.SomeResizes.{IsChangeOf, changes_ahead, first_change, last_change, one_more_change}
 use Rattle.zarrs_chunks.specs.seen.Grids.{chained_in}
 use Rattle.programs.specs.chunkplan.Line.{change_line, lines_from, resize_lines}
 use Rattle.programs.specs.chunkplan.seen.Opened.{dimensions_in, key_in}

@@ -1,5 +1,5 @@
 use Rattle.std.proofs.Common.{◌≡◌, ℕ, length}
-use Rattle.zarrs_chunk_plan.proofs.resize.SomeResizes.{ChangesHaveCome}
+use Rattle.zarrs_chunk_plan.proofs.SomeResizes.{ChangesHaveCome}
 use Rattle.zarrs_chunk_plan.specs.Counted.{counted}
 use Rattle.zarrs_chunk_plan.specs.seen.Changes.{all_changes}
 use Rattle.programs.specs.chunkplan.Line.{change_line}

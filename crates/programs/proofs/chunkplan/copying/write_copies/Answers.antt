@@ -3,7 +3,7 @@ use Rattle.zarrs_chunk_plan.specs.Counted.{counted}
 use Rattle.zarrs_chunk_plan.specs.Rechunking.{Group}
 use Rattle.zarrs_chunk_parts.specs.declared.part.Part.{Part}
 use Rattle.zarrs_chunk_plan.specs.seen.Copies.{all_targets}
-use Rattle.zarrs_chunk_plan.proofs.copy.Copied.{first_move, last_move, one_more_move}
+use Rattle.zarrs_chunk_plan.proofs.Copied.{first_move, last_move, one_more_move}
 use Rattle.programs.specs.chunkplan.seen.Missing.{line_unless_stored}
 use Rattle.programs.specs.chunkplan.seen.Opened.{PartsToCome, dimensions_in, key_in}
 use Rattle.streams.specs.seen.Sent.{Output, written}

@@ -4,7 +4,7 @@ use Rattle.zarrs_chunk_keys.specs.declared.chunk_key_encoding.named.ChunkKeyEnco
 use Rattle.zarrs_chunk_plan.specs.Counted.{counted}
 use Rattle.zarrs_chunk_parts.specs.declared.part.Part.{Part}
 use Rattle.zarrs_chunk_plan.specs.declared.read.walk.Parts.{Parts}
-use Rattle.zarrs_chunk_plan.proofs.read.Walked.{at_first}
+use Rattle.zarrs_chunk_plan.proofs.Walked.{at_first}
 use Rattle.zarrs_chunks.specs.declared.chunk_grid.named.ChunkGrid.{ChunkGrid}
 use Rattle.programs.specs.chunkplan.Line.{group_line, lines_from}
 use Rattle.programs.specs.chunkplan.seen.Opened.{CanGiveParts, PartsToCome, dimensions_in, key_in}

@@ -1,7 +1,7 @@
 use Rattle.std.proofs.Common.{◌≡◌, ◌∙◌, ℕ, suc, List, [], ◌∷◌, ◌++◌, Err, ap, refl, arith}
 use Rattle.zarrs_chunk_plan.specs.Counted.{counted}
 use Rattle.zarrs_chunk_parts.specs.declared.part.Part.{Part}
-use Rattle.zarrs_chunk_plan.proofs.read.Walked.{at_first, at_last, one_more}
+use Rattle.zarrs_chunk_plan.proofs.Walked.{at_first, at_last, one_more}
 use Rattle.programs.specs.chunkplan.seen.Opened.{dimensions_in, key_in}
 use Rattle.programs.specs.chunkplan.seen.Pieces.{text_as}
 use Rattle.streams.specs.seen.Sent.{Output, written}

@@ -1,5 +1,5 @@
 use Rattle.std.proofs.Common.{◌∙◌, [], cond, ap, refl, sym}
-use Rattle.zarrs_chunk_plan.proofs.read.Walked.{at_first}
+use Rattle.zarrs_chunk_plan.proofs.Walked.{at_first}
 use Rattle.programs.specs.chunkplan.Line.{group_line}
 use Rattle.programs.specs.chunkplan.seen.Opened.{dimensions_in, key_in}
 use Rattle.streams.specs.seen.Sent.{written}

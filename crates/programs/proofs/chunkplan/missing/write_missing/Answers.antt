@@ -10,7 +10,7 @@ use Rattle.zarrs_chunk_plan.specs.declared.shares.share.Share.{Share}
 use Rattle.zarrs_chunk_plan.specs.declared.copy.stored_chunks.StoredChunks.{StoredChunks}
 use Rattle.zarrs_chunk_plan.specs.seen.Copies.{all_targets, region_of, targets_to_come}
 use Rattle.zarrs_chunk_plan.specs.seen.StoredChunks.{Knows}
-use Rattle.zarrs_chunk_plan.proofs.copy.Copied.{first_move}
+use Rattle.zarrs_chunk_plan.proofs.Copied.{first_move}
 use Rattle.zarrs_chunks.specs.declared.chunk_grid.named.ChunkGrid.{ChunkGrid}
 use Rattle.programs.specs.chunkplan.Keys.{IsMissingText}
 use Rattle.programs.specs.chunkplan.seen.Missing.{BesideKeys, HaveNoted, share_unless_stored}

@@ -3,8 +3,8 @@ use Rattle.zarrs_chunk_base.specs.ArraySubset.{IsInside}
 use Rattle.zarrs_chunk_keys.specs.seen.Encodings.{encoding_in}
 use Rattle.zarrs_chunks.specs.seen.Grids.{grid_in}
 use Rattle.zarrs_chunk_plan.specs.Rechunking.{Group, IsRechunking, all_chunks_box, array_box}
-use Rattle.zarrs_chunk_plan.proofs.copy.Copied.{copy_of}
-use Rattle.zarrs_chunk_plan.proofs.copy.MovedBoxes.{can_stay}
+use Rattle.zarrs_chunk_plan.proofs.Copied.{copy_of}
+use Rattle.zarrs_chunk_plan.proofs.MovedBoxes.{can_stay}
 use Rattle.documents.specs.Stored.{stored_of}
 use Rattle.programs.specs.chunkplan.PlanFault.{IsChunksFault, IsFaultBeside, of_chunks, of_plan}
 use Rattle.programs.specs.chunkplan.PlanFault.{of_target}

@@ -2,7 +2,7 @@ use Rattle.std.proofs.Common.{◌≡◌, List, option_map, refl, rules, subst}
 use Rattle.zarrs_chunk_keys.specs.seen.Encodings.{encoding_in}
 use Rattle.zarrs_chunks.specs.seen.Grids.{grid_in}
 use Rattle.zarrs_chunk_plan.specs.Region.{AnyChunk, Group, IsRegionCopy}
-use Rattle.zarrs_chunk_plan.proofs.copy.Copied.{copy_of}
+use Rattle.zarrs_chunk_plan.proofs.Copied.{copy_of}
 use Rattle.documents.specs.Stored.{stored_of}
 use Rattle.programs.specs.chunkplan.PlanFault.{IsCopyFault, IsFaultBeside, of_plan, of_region_target}
 use Rattle.programs.specs.chunkplan.PlanFault.{of_region as of_region_fault}

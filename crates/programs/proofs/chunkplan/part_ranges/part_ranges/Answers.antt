@@ -1,6 +1,6 @@
 use Rattle.std.specs.Int.NonZero.{non_zero_u64_get}
-use Rattle.zarrs_chunk_plan.proofs.copy.MovedBoxes.{within_starts}
-use Rattle.zarrs_chunk_plan.proofs.bytes.StridedForms.{none_where_out}
+use Rattle.zarrs_chunk_plan.proofs.MovedBoxes.{within_starts}
+use Rattle.zarrs_chunk_plan.proofs.StridedForms.{none_where_out}
 use Rattle.programs.proofs.chunkplan.part_ranges.part_ranges.Goals as goal
 
 pub returns-in-Err-Refused-clause-form : goal.returns-in-Err-Refused-clause-form

@@ -4,7 +4,7 @@ use Rattle.zarrs_chunk_keys.specs.seen.Encodings.{encoding_in}
 use Rattle.zarrs_chunks.specs.seen.Grids.{grid_in}
 use Rattle.zarrs_chunk_plan.specs.Rechunking.{IsRechunking}
 use Rattle.zarrs_chunk_plan.specs.Region.{IsRegionCopy}
-use Rattle.zarrs_chunk_plan.proofs.resize.OneConfiguration.{one_configuration}
+use Rattle.zarrs_chunk_plan.proofs.OneConfiguration.{one_configuration}
 use Rattle.documents.specs.Stored.{stored_of}
 use Rattle.programs.specs.chunkplan.Document.{document_of, ranges_asked_of, task_of}
 use Rattle.programs.specs.chunkplan.PlanFault.{IsChunksFault, IsCopyFault, IsPlanFault, IsReadFault, of_chunks, of_region_target, of_source, of_subset}

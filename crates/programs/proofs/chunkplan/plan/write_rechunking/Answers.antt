@@ -1,7 +1,7 @@
 use Rattle.zarrs_chunk_base.specs.ArraySubset.{IsInside}
 use Rattle.zarrs_chunk_plan.specs.Rechunking.{array_box}
-use Rattle.zarrs_chunk_plan.proofs.copy.Copied.{copy_of}
-use Rattle.zarrs_chunk_plan.proofs.copy.MovedBoxes.{can_stay}
+use Rattle.zarrs_chunk_plan.proofs.Copied.{copy_of}
+use Rattle.zarrs_chunk_plan.proofs.MovedBoxes.{can_stay}
 use Rattle.programs.specs.chunkplan.CountsLine.{IsCountsLine}
 use Rattle.programs.specs.chunkplan.PlanFault.{IsChunksFault}
 use Rattle.programs.specs.chunkplan.seen.Opened.{dimensions_in, dimensions_of, key_in}

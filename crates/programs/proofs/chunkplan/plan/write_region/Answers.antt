@@ -1,6 +1,6 @@
 use Rattle.std.proofs.Common.{refl}
 use Rattle.zarrs_chunk_plan.specs.Region.{AnyChunk}
-use Rattle.zarrs_chunk_plan.proofs.copy.Copied.{copy_of}
+use Rattle.zarrs_chunk_plan.proofs.Copied.{copy_of}
 use Rattle.programs.specs.chunkplan.CountsLine.{IsCountsLine}
 use Rattle.programs.specs.chunkplan.PlanFault.{IsCopyFault}
 use Rattle.programs.specs.chunkplan.RunFault.{of_region}

@@ -1,4 +1,4 @@
-use Rattle.zarrs_chunk_plan.proofs.copy.MovedBoxes.{can_stay}
+use Rattle.zarrs_chunk_plan.proofs.MovedBoxes.{can_stay}
 use Rattle.zarrs_chunk_plan.proofs.copy.rechunking.copies.Goals as goal
 
 pub new-requires-clause-in_source : goal.new-requires-clause-in_source

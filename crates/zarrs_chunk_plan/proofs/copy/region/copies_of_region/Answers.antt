@@ -1,6 +1,6 @@
 use Rattle.zarrs_chunk_plan.specs.Region.{moved}
 use Rattle.zarrs_chunk_plan.proofs.counts.CountedCopies.{any_chunk}
-use Rattle.zarrs_chunk_plan.proofs.copy.MovedBoxes.{lies_some}
+use Rattle.zarrs_chunk_plan.proofs.MovedBoxes.{lies_some}
 use Rattle.zarrs_chunk_plan.proofs.copy.region.copies_of_region.Goals as goal
 
 pub chunks_with-requires : goal.chunks_with-requires

@@ -1,5 +1,5 @@
 use Rattle.std.proofs.Common.{◌≡◌, length, rules}
-use Rattle.zarrs_chunk_plan.proofs.read.Clipped.{is_clipped, is_covered}
+use Rattle.zarrs_chunk_plan.proofs.Clipped.{is_clipped, is_covered}
 use Rattle.zarrs_chunk_plan.proofs.read.clipping.clip.Goals as goal
 
 pub returns-clause-clipped : goal.returns-clause-clipped

@@ -2,7 +2,7 @@ use Rattle.std.proofs.Common.{◌≡◌, ◌+◌, ◌-◌, ◌≤◌, drop, subs
 use Rattle.std.specs.List.{AllZip}
 use Rattle.zarrs_chunks.specs.Walks.{chunks_in}
 use Rattle.zarrs_chunk_parts.specs.Plan.{IsPart, Meets}
-use Rattle.zarrs_chunk_plan.proofs.read.Taken.{of_place, one_more}
+use Rattle.zarrs_chunk_plan.proofs.Taken.{of_place, one_more}
 use Rattle.zarrs_chunk_plan.proofs.read.numbered_parts.parts_between.Goals as goal
 
 pub loop-number-preserved : goal.loop-number-preserved

@@ -3,8 +3,8 @@ use Rattle.zarrs_chunk_base.specs.Greatest.{greatest}
 use Rattle.zarrs_chunk_axes.specs.RowMajor.{row_major}
 use Rattle.zarrs_chunks.specs.Walks.{chunks_in}
 use Rattle.zarrs_chunk_plan.specs.declared.read.numbered_parts.SomeParts.{SomeParts}
-use Rattle.zarrs_chunk_plan.proofs.read.Plans.{covered_meet, none_in_zeros}
-use Rattle.zarrs_chunk_plan.proofs.read.Taken.{none_of_plan, some_of_plan}
+use Rattle.zarrs_chunk_plan.proofs.Plans.{covered_meet, none_in_zeros}
+use Rattle.zarrs_chunk_plan.proofs.Taken.{none_of_plan, some_of_plan}
 use Rattle.zarrs_chunk_plan.proofs.read.numbered_parts.some_parts.Goals as goal
 
 pub parts_between-requires-clause-meet : goal.parts_between-requires-clause-meet

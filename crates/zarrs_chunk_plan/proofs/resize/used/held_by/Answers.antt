@@ -1,5 +1,5 @@
 use Rattle.zarrs_chunk_plan.proofs.HeldBoxes.{held_elements}
-use Rattle.zarrs_chunk_plan.proofs.copy.Rechunkings.{found_are}
+use Rattle.zarrs_chunk_plan.proofs.Rechunkings.{found_are}
 use Rattle.zarrs_chunk_plan.proofs.resize.used.held_by.Goals as goal
 
 pub returns : goal.returns

@@ -1,7 +1,7 @@
 use Rattle.std.proofs.Common.{◌≡◌, ◌+◌, ◌-◌, ◌≤◌, drop, refl, subst, sym, take, arith}
 use Rattle.std.specs.List.{AllZip}
 use Rattle.zarrs_chunks.specs.Walks.{chunks_in}
-use Rattle.zarrs_chunk_plan.proofs.read.Taken.{one_more}
+use Rattle.zarrs_chunk_plan.proofs.Taken.{one_more}
 use Rattle.zarrs_chunk_plan.proofs.shares.numbered_chunks.chunks_between.Goals as goal
 
 pub loop-number-preserved : goal.loop-number-preserved

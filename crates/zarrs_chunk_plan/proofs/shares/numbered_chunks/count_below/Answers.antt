@@ -1,5 +1,5 @@
 use Rattle.std.proofs.Common.{◌∙◌}
-use Rattle.zarrs_chunk_plan.proofs.shares.ByNumber.{counted_most}
+use Rattle.zarrs_chunk_plan.proofs.ByNumber.{counted_most}
 use Rattle.zarrs_chunk_plan.proofs.shares.numbered_chunks.count_below.Goals as goal
 
 pub returns : goal.returns

@@ -1,6 +1,6 @@
 use Rattle.std.proofs.Common.{◌≡◌, ◌∙◌, ◌-◌, ◌^◌, length, refl, arith}
 use Rattle.std.proofs.Math.Seq.{take-length}
-use Rattle.zarrs_chunk_plan.proofs.shares.ByNumber.{counted_more}
+use Rattle.zarrs_chunk_plan.proofs.ByNumber.{counted_more}
 use Rattle.zarrs_chunk_axes.specs.RowMajor.{row_major}
 use Rattle.zarrs_chunk_plan.proofs.shares.numbered_chunks.long_count.Goals as goal
 

@@ -1,4 +1,4 @@
-use Rattle.zarrs_chunk_plan.proofs.shares.ByNumber.{IsNumbered}
+use Rattle.zarrs_chunk_plan.proofs.ByNumber.{IsNumbered}
 use Rattle.zarrs_chunk_plan.proofs.shares.numbered_chunks.write_chunk.Given as goal
 
 -- the dimensions that were looked at have their numbers

@@ -7,7 +7,7 @@ use Rattle.zarrs_chunk_plan.specs.Rechunking.{array_box}
 use Rattle.zarrs_chunk_plan.specs.seen.Used.{IsLongest, UsesFirst}
 use Rattle.zarrs_chunk_plan.proofs.HeldBoxes.{along_each, some_chunks}
 use Rattle.zarrs_chunk_plan.proofs.two_stages.LargestChunks.{in_each, is_largest, largest_of_none, pushed}
-use Rattle.zarrs_chunk_plan.proofs.read.Plans.{empty_or_some}
+use Rattle.zarrs_chunk_plan.proofs.Plans.{empty_or_some}
 use Rattle.zarrs_chunk_plan.proofs.two_stages.largest.largest_chunk.Goals as goal
 
 pub returns-then-not-are_few-clause-few : goal.returns-then-not-are_few-clause-few

@@ -1,7 +1,7 @@
 use Rattle.std.proofs.Common.{IfOk, IfSome, ap, subst, sym}
 use Rattle.std.specs.List.{Contains}
 use Rattle.zarrs_chunk_plan.specs.seen.Copies.{IsPlanned}
-use Rattle.zarrs_chunk_plan.proofs.copy.Copied.{planned_of}
+use Rattle.zarrs_chunk_plan.proofs.Copied.{planned_of}
 use Rattle.zarrs_chunk_plan.proofs.copy.chunk_copies.Copies.sources.Goals as goal
 
 pub returns : goal.returns

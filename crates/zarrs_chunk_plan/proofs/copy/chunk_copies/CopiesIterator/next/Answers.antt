@@ -1,5 +1,5 @@
 use Rattle.std.proofs.Common.{refl}
-use Rattle.zarrs_chunk_plan.proofs.copy.Copied.{gives_copies}
+use Rattle.zarrs_chunk_plan.proofs.Copied.{gives_copies}
 use Rattle.zarrs_chunk_plan.proofs.copy.chunk_copies.CopiesIterator.next.Goals as goal
 
 pub returns-in-Ok-expect_answer-clause-steps : goal.returns-in-Ok-expect_answer-clause-steps

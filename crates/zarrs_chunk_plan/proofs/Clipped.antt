@@ -7,8 +7,8 @@ use Rattle.zarrs_chunks.specs.Subsets.{IsCover}
 use Rattle.zarrs_chunk_plan.specs.Clip.{IsClipped}
 use Rattle.zarrs_chunk_plan.specs.Rechunking.{array_box}
 use Rattle.zarrs_chunk_parts.specs.seen.Shared.{later_starts}
-use Rattle.zarrs_chunk_plan.proofs.copy.Rechunkings.{in_array}
-use Rattle.zarrs_chunk_plan.proofs.read.SomePlan.{has_cover}
+use Rattle.zarrs_chunk_plan.proofs.Rechunkings.{in_array}
+use Rattle.zarrs_chunk_plan.proofs.SomePlan.{has_cover}
 
 -- no start lies before 0
 later_than_zeros : (n : ℕ) (start : List ℕ) → length start ≡ n → later_starts (replicate n 0) start ≡ start

@@ -21,10 +21,10 @@ use Rattle.zarrs_chunk_plan.specs.seen.Changes.{CanChange, GivesChange, IsAboutR
 use Rattle.zarrs_chunk_plan.specs.seen.Parts.{HasKeys}
 use Rattle.zarrs_chunk_plan.proofs.copy.AskedChunks.{below_or_not}
 use Rattle.zarrs_chunk_plan.proofs.HeldBoxes.{held_elements}
-use Rattle.zarrs_chunk_plan.proofs.read.Plans.{all_of_each}
-use Rattle.zarrs_chunk_plan.proofs.shares.ShareLists.{both_zipped}
-use Rattle.zarrs_chunk_plan.proofs.read.SomePlan.{each_has, has_part}
-use Rattle.zarrs_chunk_plan.proofs.read.Walked.{all_given, one_came}
+use Rattle.zarrs_chunk_plan.proofs.Plans.{all_of_each}
+use Rattle.zarrs_chunk_plan.proofs.ShareLists.{both_zipped}
+use Rattle.zarrs_chunk_plan.proofs.SomePlan.{each_has, has_part}
+use Rattle.zarrs_chunk_plan.proofs.Walked.{all_given, one_came}
 
 -- ---- what one chunk holds
 

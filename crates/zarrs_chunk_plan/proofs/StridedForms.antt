@@ -18,7 +18,7 @@ use Rattle.zarrs_chunk_plan.specs.Strided.{Strided, form_of, has_all, has_zero, 
 use Rattle.zarrs_chunk_plan.specs.seen.Rows.{IsStrided}
 use Rattle.zarrs_chunk_plan.specs.declared.bytes.ranges.ByteRanges.{ByteRanges}
 use Rattle.zarrs_chunk_plan.specs.declared.bytes.ranges.MemoryOrder.{MemoryOrder}
-use Rattle.zarrs_chunk_plan.proofs.read.Plans.{not_empty_if_inside}
+use Rattle.zarrs_chunk_plan.proofs.Plans.{not_empty_if_inside}
 use Rattle.zarrs_chunk_plan.proofs.bytes.StoredOrder.{ends_in_order, product_in_order, ranges_in_order, some_in_order}
 use Rattle.zarrs_chunk_plan.specs.declared.bytes.ranges.MemoryOrder.TheVariants.{C}
 use Rattle.zarrs_chunk_plan.proofs.bytes.RangeStarts.{in_repeated, repeated_apart, to_repeated}

@@ -11,10 +11,10 @@ use Rattle.zarrs_chunk_parts.specs.Plan.{Meets}
 use Rattle.zarrs_chunk_plan.specs.Rechunking.{AreTargets, Group, IsRechunking, array_box}
 use Rattle.zarrs_chunk_plan.specs.Region.{AreMovedInto, EndWithin, IsCopy, LiesIn, moved, shifted}
 use Rattle.zarrs_chunk_plan.specs.seen.Parts.{HasKeys}
-use Rattle.zarrs_chunk_plan.proofs.copy.MovedBoxes.{can_stay}
-use Rattle.zarrs_chunk_plan.proofs.read.Plans.{all_of_each, not_empty, place_below}
+use Rattle.zarrs_chunk_plan.proofs.MovedBoxes.{can_stay}
+use Rattle.zarrs_chunk_plan.proofs.Plans.{all_of_each, not_empty, place_below}
 use Rattle.zarrs_chunk_plan.proofs.copy.Regions.{read_is_box}
-use Rattle.zarrs_chunk_plan.proofs.read.SomePlan.{each_has, has_part, has_plan}
+use Rattle.zarrs_chunk_plan.proofs.SomePlan.{each_has, has_part, has_plan}
 use Rattle.zarrs_chunk_plan.proofs.counts.Written.{last_within}
 
 -- an index in a box of a region that lies in the array is one of the array

@@ -20,8 +20,8 @@ use Rattle.zarrs_chunk_plan.specs.declared.read.walk.Parts.{Parts}
 use Rattle.zarrs_chunk_plan.specs.seen.Copies.{AreMovesToCome, CanMove, GivesCopies, HasAllParts, IsAboutCopies, IsPlanned}
 use Rattle.zarrs_chunk_plan.specs.seen.Copies.{first_of, region_of, target_of, targets_to_come}
 use Rattle.zarrs_chunk_plan.specs.seen.Parts.{AnswersParts, ArePartsToCome, GivesPart, IsAbout, MeetSubset, all_chunks, chunks_to_come}
-use Rattle.zarrs_chunk_plan.proofs.read.Plans.{not_empty}
-use Rattle.zarrs_chunk_plan.proofs.read.Walked.{one_came, plan_of}
+use Rattle.zarrs_chunk_plan.proofs.Plans.{not_empty}
+use Rattle.zarrs_chunk_plan.proofs.Walked.{one_came, plan_of}
 
 -- what `parts` answers of a box that isn't empty has to give the plan of reading it
 pub planned_of : {G E : Type 0} (dimensions : G → List Dimension) (grid : G) (encoding : E) (b : Box)

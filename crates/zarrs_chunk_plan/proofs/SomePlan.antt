@@ -17,7 +17,7 @@ use Rattle.zarrs_chunks.proofs.UpTo.{ones_fit}
 use Rattle.zarrs_chunk_parts.specs.Plan.{IsPart, IsPlan, Meets}
 use Rattle.zarrs_chunk_parts.specs.declared.part.Part.{Part}
 use Rattle.zarrs_chunk_plan.specs.seen.Parts.{HasKeys}
-use Rattle.zarrs_chunk_plan.proofs.read.Plans.{all_of_each}
+use Rattle.zarrs_chunk_plan.proofs.Plans.{all_of_each}
 use Rattle.zarrs_chunk_plan.proofs.counts.Written.{first_within, last_within}
 use Rattle.zarrs_chunk_parts.proofs.Shares.{boxes_are, from_chunk, from_start, has_all_of}
 use Rattle.zarrs_chunk_parts.proofs.Wholes.{test_rest}

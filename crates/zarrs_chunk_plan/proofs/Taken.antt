@@ -14,7 +14,7 @@ use Rattle.zarrs_chunks.specs.Walks.{chunks_in}
 use Rattle.zarrs_chunk_parts.specs.Plan.{IsPart}
 use Rattle.zarrs_chunk_plan.specs.SomeParts.{AreSomeParts}
 use Rattle.zarrs_chunk_plan.specs.declared.read.numbered_parts.SomeParts.{SomeParts}
-use Rattle.zarrs_chunk_plan.proofs.shares.ByNumber.{as_many}
+use Rattle.zarrs_chunk_plan.proofs.ByNumber.{as_many}
 
 -- what holds of each holds at a place
 pub of_place : {X : Type 0} (P : X → Type 0) (xs : List X) (k : ℕ) (x : X) → AllByRecursion P xs → slice_get xs k ≡ Some x → P x

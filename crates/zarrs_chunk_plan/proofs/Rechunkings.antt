@@ -17,7 +17,7 @@ use Rattle.zarrs_chunk_plan.specs.Region.{IsCopy, MovesTo, shifted}
 use Rattle.zarrs_chunk_parts.specs.declared.part.Part.{Part}
 use Rattle.zarrs_chunk_plan.proofs.copy.CopyLists.{pairs_follow}
 use Rattle.zarrs_chunk_plan.proofs.copy.Joined.{in_joined, pairs_joined}
-use Rattle.zarrs_chunk_plan.proofs.read.Plans.{all_long, pair_of, pairs_by, source_of}
+use Rattle.zarrs_chunk_plan.proofs.Plans.{all_long, pair_of, pairs_by, source_of}
 use Rattle.zarrs_chunk_plan.proofs.copy.Regions.{has_keys, moves_region, no_other_to, some_copy, is_copy_of}
 
 -- ---- the whole array
