@@ -1,22 +1,21 @@
--- The keys of another encoding, which are store keys, each with `.v1` after it.
+-- The keys of another encoding, each with `v1.` before it.
 use Rattle.std.specs.Prelude.{◌≡◌, ℕ, List, ◌++◌, codes}
-use Rattle.std.proofs.Common.{sym, subst, ◌∙◌}
-use Rattle.zarrs_chunk_base.specs.StoreKey.{EndsInSlash}
-use Rattle.zarrs_chunk_keys.specs.lemmas.Parts.{same_front}
+use Rattle.std.proofs.Common.{refl, subst}
 
-pub record IsVersioned (IsKey : List ℕ → List ℕ → Type 0) (chunk key : List ℕ) : Type 0 where
-  pub front : List ℕ
-  pub is_key : IsKey chunk front
-  pub no_slash : ¬ EndsInSlash front
-  pub ends : key ≡ front ++ codes ".v1"
+abbrev pub IsVersioned : (IsKey : List ℕ → List ℕ → Type 0) → (chunk key : List ℕ) → Type 0
+IsVersioned IsKey chunk key = (own : List ℕ) × IsKey chunk own × (key ≡ codes "v1." ++ own)
 
--- what stands before the version is known
-pub same_key : (IsKey : List ℕ → List ℕ → Type 0) (chunk key front : List ℕ) (is : IsVersioned IsKey chunk key)
-    → key ≡ front ++ codes ".v1" → is.front ≡ front
-same_key IsKey chunk key front is ends = same_front is.front front (codes ".v1") (sym is.ends ∙ ends)
+-- what comes after the version is known
+pub same_own : (one other : List ℕ) → codes "v1." ++ one ≡ codes "v1." ++ other → one ≡ other
+same_own one other same = cc
 
 pub versioned_exact : (IsKey : List ℕ → List ℕ → Type 0) (chunk other key : List ℕ)
-    → ((front : List ℕ) → IsKey chunk front → IsKey other front → chunk ≡ other) → IsVersioned IsKey chunk key
+    → ((own : List ℕ) → IsKey chunk own → IsKey other own → chunk ≡ other) → IsVersioned IsKey chunk key
     → IsVersioned IsKey other key → chunk ≡ other
-versioned_exact IsKey chunk other key exact is also =
-    exact is.front is.is_key (subst (IsKey other) (same_key IsKey other key is.front also is.ends) also.is_key)
+versioned_exact IsKey chunk other key exact (own, is, begins) (next, also, also_begins) =
+    exact own is (subst (IsKey other) (same_own next own (let same : codes "v1." ++ next ≡ codes "v1." ++ own = cc in same)) also)
+
+-- each list of numbers has a key, where it has one under the other encoding
+pub versioned_has : (IsKey : List ℕ → List ℕ → Type 0) (chunk : List ℕ) → (own : List ℕ) × IsKey chunk own
+    → (key : List ℕ) × IsVersioned IsKey chunk key
+versioned_has IsKey chunk (own, is) = (codes "v1." ++ own, (own, is, refl))

@@ -6,18 +6,21 @@ use zarrs_chunk_base::{
 };
 use zarrs_chunk_keys::ChunkKeyEncodingTraits;
 
-/// The keys of another encoding, each with a version after it.
+/// The keys of another encoding, each with a version before it.
 #[derive(Drop)]
 pub struct Versioned<E: ChunkKeyEncodingTraits>(pub E);
 
 impl<E: ChunkKeyEncodingTraits> ChunkKeyEncodingTraits for Versioned<E> {
-    ghost use Rattle.callers.specs.Versioned.{IsVersioned, versioned_exact};
+    ghost use Rattle.callers.specs.Versioned.{IsVersioned, versioned_exact, versioned_has};
 
     ghost is_key = { λ encoding. IsVersioned (E.is_key encoding.0) };
 
     ghost exact = { λ encoding chunk other key fit other_fit same.
         versioned_exact (E.is_key encoding.0) chunk other key
-        (λ front. E.exact encoding.0 chunk other front fit other_fit same) };
+        (λ own. E.exact encoding.0 chunk other own fit other_fit same) };
+
+    ghost has_key = { λ encoding chunk fit.
+        versioned_has (E.is_key encoding.0) chunk (E.has_key encoding.0 chunk fit) };
 
     fn create(
         alloc: Global,
@@ -32,11 +35,11 @@ impl<E: ChunkKeyEncodingTraits> ChunkKeyEncodingTraits for Versioned<E> {
 
     fn encode(&self, alloc: Global, chunk_indices: &[u64]) -> Result<StoreKey, AllocError> {
         let key = self.0.encode(alloc, chunk_indices)?;
-        let mut text = String::from_str(alloc, key.as_str())?;
-        text.push_str(".v1")?;
+        let mut text = String::from_str(alloc, "v1.")?;
+        text.push_str(key.as_str())?;
         match StoreKey::new(text) {
             Ok(key) => Ok(key),
-            // Never: the text ends in a digit.
+            // Never: neither text ends in a slash.
             Err(_) => Err(AllocError),
         }
     }
@@ -47,11 +50,12 @@ impl<E: ChunkKeyEncodingTraits> ChunkKeyEncodingTraits for Versioned<E> {
         dimensionality: usize,
         key: &StoreKey,
     ) -> Result<Option<ArrayIndices>, AllocError> {
-        let Some(front) = key.as_str().strip_suffix(".v1") else {
+        let Some(own) = key.as_str().strip_prefix("v1.") else {
             return Ok(None);
         };
-        match StoreKey::new(String::from_str(alloc, front)?) {
-            Ok(front) => self.0.decode(alloc, dimensionality, &front),
+        match StoreKey::new(String::from_str(alloc, own)?) {
+            Ok(own) => self.0.decode(alloc, dimensionality, &own),
+            // Never: the key doesn't end in a slash.
             Err(_) => Ok(None),
         }
     }

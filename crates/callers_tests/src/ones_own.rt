@@ -119,7 +119,7 @@ fn bounds_of_a_grid_of_ones_own(rt: HostRuntime) -> Result<(), Fail> {
     check_bounds(&rt, &Stairs)
 }
 
-/// Keys with dots, each with a version at its end.
+/// Keys with dots, each with a version before it.
 fn versioned(alloc: Global) -> Result<Versioned<DefaultChunkKeyEncoding>, Fail> {
     let dots = metadata(alloc, r#"{"name":"x","configuration":{"separator":"."}}"#)?;
     Ok(Versioned::<DefaultChunkKeyEncoding>::create(alloc, &dots)?)
@@ -137,7 +137,7 @@ fn an_encoding_of_ones_own(rt: HostRuntime) -> Result<(), Fail> {
     let _configuration = encoding.configuration(rt.alloc())?;
     let located = located(rt.alloc(), &encoding)?;
     check_numbers(&rt, &located.chunk, &[3, 2, 16]);
-    check_same(&rt, located.key.as_str(), "c.3.2.16.v1");
+    check_same(&rt, located.key.as_str(), "v1.c.3.2.16");
     check_numbers(&rt, &located.element, &[0, 1, 2]);
     Ok(())
 }
@@ -171,10 +171,10 @@ fn keys_of_an_encoding_of_ones_own(rt: HostRuntime) -> Result<(), Fail> {
     check_same(
         &rt,
         appended(rt.alloc(), &encoding)?.as_str(),
-        "key c.3.2.16.v1",
+        "key v1.c.3.2.16",
     );
     check_numbers(&rt, &read_back(rt.alloc(), &encoding)?, &[3, 2, 16]);
-    for text in ["c.3.2.16", "c.3.2.v1", "c.3.2.16/.v1"] {
+    for text in ["c.3.2.16", "v1.c.3.2", "v1/c.3.2.16", "v1."] {
         check_that(&rt, is_of_no_chunk(rt.alloc(), &encoding, text)?, text);
     }
     Ok(())

@@ -1,11 +1,6 @@
--- The decimal text of a number is its numeral, and numerals are put one after another.
-use Rattle.std.proofs.Common.{◌≡◌, ℕ, ◌^◌, ◌<◌, List, [], ◌∷◌, ◌++◌, decimal, refl, sym, ap, subst, ◌∙◌, append_assoc, append-nil, arith}
-use Rattle.std.proofs.lemmas.Fmt.{decimal_by_steps}
-use Rattle.zarrs_chunk_keys.specs.Numeral.{IsNumeral, one_digit, more_digits, IsNumerals}
-
-pub IsNumeral-decimal : (n : ℕ) → n < 2 ^ 64 → IsNumeral n (decimal n)
-IsNumeral-decimal =
-    decimal_by_steps IsNumeral (λ n below. one_digit below refl) (λ n ds high front. more_digits front (omega arith) (omega arith) (omega arith) refl)
+-- Numerals, one after another.
+use Rattle.std.proofs.Common.{◌≡◌, ℕ, List, [], ◌∷◌, ◌++◌, refl, sym, ap, subst, ◌∙◌, append_assoc, append-nil}
+use Rattle.zarrs_chunk_keys.specs.Numeral.{IsNumeral, IsNumerals}
 
 pub IsNumerals-push : (before : ℕ) (ns : List ℕ) (text : List ℕ) (n : ℕ) (numeral : List ℕ) → IsNumerals before ns text → IsNumeral n numeral
     → IsNumerals before (ns ++ n ∷ []) (text ++ before ∷ numeral)

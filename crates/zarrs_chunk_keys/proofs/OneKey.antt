@@ -1,14 +1,12 @@
--- A chunk has one key under an encoding: since a number has one numeral, no other; and one at all, since each number has one.
-use Rattle.std.specs.Prelude.{◌≡◌, ◌≤◌, ℕ, List, [], ◌∷◌, ◌++◌, codes, length}
-use Rattle.std.proofs.Common.{ap, ap₂, sym, ◌∙◌, decimal, refl, subst, length-append, arith}
+-- A chunk has no other key under an encoding, since a number has no other numeral.
+use Rattle.std.specs.Prelude.{◌≡◌, ℕ, List, [], ◌∷◌, ◌++◌, length}
+use Rattle.std.proofs.Common.{ap, ap₂, sym, ◌∙◌, refl, subst, length-append, arith}
 use Rattle.zarrs_chunk_base.specs.declared.chunk_key_separator.ChunkKeySeparator.{ChunkKeySeparator}
 use Rattle.zarrs_chunk_base.specs.ChunkKeySeparator.{separator_byte}
-use Rattle.zarrs_chunk_base.specs.Greatest.{AllFit, greatest}
 use Rattle.zarrs_chunk_keys.specs.ChunkKey.{Encoding, IsDefaultKey, IsKey, IsV2Key, c_alone, default_keys, number_more, one_more, one_number}
 use Rattle.zarrs_chunk_keys.specs.ChunkKey.{suffixed, suffixed_keys, v2_keys, zero_alone}
-use Rattle.zarrs_chunk_keys.specs.Numeral.{IsNumeral, IsNumerals, digit, more_digits, one_digit}
-use Rattle.zarrs_chunk_keys.proofs.Keys.{is_default_key, is_v2_key}
-use Rattle.zarrs_chunk_keys.proofs.NumeralLemmas.{IsNumeral-decimal}
+use Rattle.zarrs_chunk_keys.specs.Numeral.{IsNumeral, digit, more_digits, one_digit}
+pub use Rattle.zarrs_chunk_keys.specs.lemmas.HaveKeys.{has_key}
 
 one_numeral : (n : ℕ) (text other : List ℕ) → IsNumeral n text → IsNumeral n other → text ≡ other
 one_numeral n text other (one_digit small is) (one_digit also_small also) = is ∙ sym also
@@ -91,26 +89,3 @@ one_key (default_keys separator) chunk key other is also = one_default_key separ
 one_key (v2_keys separator) chunk key other is also = one_v2_key separator chunk key other is also
 one_key (suffixed_keys separator suffix) chunk key other (suffixed {front = front} is ends) (suffixed {front = other_front} also other_ends) =
     ends ∙ ap (λ xs. xs ++ suffix) (one_default_key separator chunk front other_front is also) ∙ sym other_ends
-
--- ---- each chunk has a key
-
-have_numerals : (before : ℕ) (numbers : List ℕ) → AllFit numbers → (text : List ℕ) × IsNumerals before numbers text
-have_numerals before [] fit = ([], refl)
-have_numerals before (n ∷ numbers) fit =
-    let low : n ≤ greatest = fit.0 in
-    let (rest, are) = have_numerals before numbers fit.1 in
-    (before ∷ decimal n ++ rest, (decimal n, rest, IsNumeral-decimal n (omega arith), are, refl))
-
-pub has_key : (encoding : Encoding) (chunk : List ℕ) → AllFit chunk → (key : List ℕ) × IsKey encoding chunk key
-unfolding IsKey
-has_key (default_keys separator) chunk fit =
-    let (numerals, are) = have_numerals (separator_byte separator) chunk fit in
-    (codes "c" ++ numerals, is_default_key separator chunk numerals are)
-has_key (v2_keys separator) [] fit = (codes "0", zero_alone refl refl)
-has_key (v2_keys separator) (n ∷ chunk) fit =
-    let low : n ≤ greatest = fit.0 in
-    let (numerals, are) = have_numerals (separator_byte separator) chunk fit.1 in
-    (decimal n ++ numerals, is_v2_key separator n chunk (decimal n) numerals (IsNumeral-decimal n (omega arith)) are)
-has_key (suffixed_keys separator suffix) chunk fit =
-    let (numerals, are) = have_numerals (separator_byte separator) chunk fit in
-    ((codes "c" ++ numerals) ++ suffix, suffixed (is_default_key separator chunk numerals are) refl)

@@ -1,3 +1,4 @@
 pub mod ExactKeys
+pub mod HaveKeys
 pub mod Numerals
 pub mod Parts

@@ -74,4 +74,8 @@ pub trait ChunkKeyEncodingTraits: Sized + Drop {
     ghost exact: { (encoding : Self) (chunk other key : List ℕ) → AllFit chunk → AllFit other
         → length chunk ≡ length other → is_key encoding chunk key → is_key encoding other key
         → chunk ≡ other };
+
+    /// Each list of 64-bit numbers has a key.
+    ghost has_key: { (encoding : Self) (chunk : List ℕ) → AllFit chunk
+        → (key : List ℕ) × is_key encoding chunk key };
 }

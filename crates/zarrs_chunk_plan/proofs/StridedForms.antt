@@ -8,10 +8,13 @@ use Rattle.std.proofs.Math.Nat.{add-mul, div-lt_iff_lt-mul, mod-lt, mul-le-mul_r
 use Rattle.std.proofs.Math.Seq.{drop-cons}
 use Rattle.std.proofs.lemmas.Nat.{div-add-mod', le-div, row_fits}
 use Rattle.std.specs.List.{AllPairs}
+use Rattle.std.proofs.lemmas.List.{get_or_default}
+use Rattle.std.proofs.lemmas.List.Elements.{Contains-get_or}
+use Rattle.zarrs_chunk_base.specs.ArraySubset.{AreWithin}
 use Rattle.zarrs_chunk_base.specs.Greatest.{greatest}
 use Rattle.zarrs_chunk_base.proofs.FirstMembers.{contained}
 use Rattle.zarrs_chunks.proofs.Covers.{head_some, tail_some}
-use Rattle.zarrs_chunk_plan.specs.Bytes.{FindsRanges, HasPast, begins, in_order, HasByte, IsByteIn, place}
+use Rattle.zarrs_chunk_plan.specs.Bytes.{FindsRanges, GoesTo, HasByte, HasPast, IsByteIn, begins, in_order, place, place_within}
 use Rattle.zarrs_chunk_plan.specs.Counts.{product}
 use Rattle.zarrs_chunk_plan.specs.Region.{EndWithin}
 use Rattle.zarrs_chunk_plan.specs.Strided.{Strided, form_of, has_all, has_zero, lies_in, no_ranges, ranges_of, strided, along}
@@ -21,7 +24,7 @@ use Rattle.zarrs_chunk_plan.specs.declared.bytes.ranges.MemoryOrder.{MemoryOrder
 use Rattle.zarrs_chunk_plan.proofs.Plans.{not_empty_if_inside}
 use Rattle.zarrs_chunk_plan.proofs.bytes.StoredOrder.{ends_in_order, product_in_order, ranges_in_order, some_in_order}
 use Rattle.zarrs_chunk_plan.specs.declared.bytes.ranges.MemoryOrder.TheVariants.{C}
-use Rattle.zarrs_chunk_plan.proofs.bytes.RangeStarts.{in_repeated, repeated_apart, to_repeated}
+use Rattle.zarrs_chunk_plan.proofs.bytes.RangeStarts.{at_repeated, in_repeated, repeated_apart, repeated_length}
 
 -- ---- what the tests tell
 
@@ -79,40 +82,90 @@ one_range first long = record { first = first; length = long; counts = []; strid
 record AreInRow (item : ℕ) (edges start shape : List ℕ) (form : Strided) (whole : Bool) : Type 0 where
   long : 0 < form.length
   lists : length form.counts ≡ length form.strides
-  those : (f byte : ℕ) → HasByte form.length (begins f form.counts form.strides) byte
-      ↔ ((b : ℕ) × IsByteIn item C edges start shape b × (byte + form.first ≡ b + f))
+  many : (f : ℕ) → length (begins f form.counts form.strides) * form.length ≡ product shape * item
+  goes : (f number byte : ℕ) → number < length (begins f form.counts form.strides) → byte < form.length
+      → (b : ℕ) × GoesTo item C edges start shape b (number * form.length + byte)
+      × (get_or (begins f form.counts form.strides) number 0 + byte + form.first ≡ b + f)
   apart : (f : ℕ) → AllPairs (λ one later. one + form.length < later) (begins f form.counts form.strides)
   lie : (f n : ℕ) → Contains (begins f form.counts form.strides) n
       → (f ≤ n) × (n + form.length + form.first ≤ product edges * item + f) × (whole ≡ false → n + form.length < f + product edges * item)
   all : whole ≡ true → form ≡ one_range 0 (product edges * item)
 
+-- two numbers of rows, and of bytes in a row, are alike where they count as many bytes
+rows_alike : (item a x b y : ℕ) → x < item → y < item → a * item + x ≡ b * item + y → (a ≡ b) × (x ≡ y)
+rows_alike item a x b y small also same =
+    ⊎_elim (λ (less : a < b). let row = row_fits a item b item less (omega arith) in absurd (omega arith))
+    (λ (le : b ≤ a).
+    ⊎_elim (λ (less : b < a). let row = row_fits b item a item less (omega arith) in absurd (omega arith))
+    (λ (ge : a ≤ b). let one : a ≡ b = omega arith in let row = ap (λ m. m * item) one in (one, omega arith)) (cases_lt b a))
+    (cases_lt a b)
+
+place_below : (start shape index : List ℕ) → AreWithin start shape index → place_within start shape index < product shape
+place_below [] [] [] within = omega arith
+place_below (s ∷ start) (n ∷ shape) (i ∷ index) within =
+    let rest = place_below start shape index within.2 in
+    let row = row_fits (i - s) (product shape) n (product shape) (omega arith) (omega arith) in
+    omega arith
+place_below _ _ _ within = absurd within
+
+-- no other element of a box is at its place
+place_once : (start shape one other : List ℕ) → AreWithin start shape one → AreWithin start shape other
+    → place_within start shape one ≡ place_within start shape other → one ≡ other
+place_once [] [] [] [] within also same = refl
+place_once (s ∷ start) (n ∷ shape) (i ∷ one) (j ∷ other) within also same =
+    let (row, rest) = rows_alike (product shape) (i - s) _ (j - s) _ (place_below start shape one within.2) (place_below start shape other also.2) same in
+    ap₂ (λ m ms. m ∷ ms) (omega arith) (place_once start shape one other within.2 also.2 rest)
+place_once _ _ _ _ within also same = absurd assumption
+
+module _ (item : ℕ) (edges start shape : List ℕ) (form : Strided) (whole : Bool) (row : AreInRow item edges start shape form whole) where
+  has_those : (f byte : ℕ) → HasByte form.length (begins f form.counts form.strides) byte
+      ↔ ((b : ℕ) × IsByteIn item C edges start shape b × (byte + form.first ≡ b + f))
+  has_those f byte = (
+    λ (n, (k, small, is), low, high).
+        let (b, goes, at) = row.goes f k (byte - n) small (omega arith) in
+        let same = get_or_default xs k n 0 small in
+        (b, (goes.index, goes.within, (omega (arith, goes.in_chunk), omega (arith, goes.in_chunk, goes.of_element))), omega (arith, is, same, at)),
+    λ (b, (index, within, (low, high)), at).
+        let part = b - place edges index * item in
+        let to = place_within start shape index * item + part in
+        let few = row_fits (place_within start shape index) item (product shape) item (place_below start shape index within) (omega arith) in
+        let sum = div-add-mod' to form.length in
+        let long = mod-lt to row.long in
+        let less : to / form.length < length xs = (div-lt_iff_lt-mul row.long).1 (omega (arith, few, row.many f, high)) in
+        let (c, goes, here) = row.goes f (to / form.length) (to % form.length) less long in
+        let (one, bytes) = rows_alike item _ _ _ _ goes.of_element (omega (arith, high)) (sym goes.in_box ∙ sum) in
+        let same = place_once start shape goes.index index goes.within within one in
+        let places = ap (λ x. place edges x * item) same in
+        (get_or xs (to / form.length) 0, Contains-get_or xs (to / form.length) 0 less, omega (arith, goes.in_chunk, places, bytes, here, at),
+        omega (arith, goes.in_chunk, places, bytes, here, at, long)),
+  ) where
+    xs : List ℕ
+    xs = begins f form.counts form.strides
+
 only : (m n : ℕ) → Contains (m ∷ []) n → n ≡ m
 only m n (zero, small, is) = sym is
 only m n (suc k, small, is) = absurd (omega arith)
-
-in_one : (m long byte : ℕ) → HasByte long (m ∷ []) byte ↔ ((m ≤ byte) × (byte < m + long))
-in_one m long byte =
-    (λ (n, has, low, high). let at = only m n has in (omega arith, omega arith), λ (low, high). (m, (zero, omega arith, refl), low, high))
 
 module _ (item edge s n : ℕ) (edges start shape : List ℕ) where
   abbrev Row : ℕ
   Row = product edges * item
 
-  -- the byte lies in one of the box's rows, where the box along the other dimensions has it
-  abbrev InRow : ℕ → Type 0
-  InRow byte = (i : ℕ) × (b : ℕ) × (s ≤ i) × (i < s + n) × IsByteIn item C edges start shape b × (byte ≡ b + i * Row)
-
-  bytes_before : (i : ℕ) (index : List ℕ) → place (edge ∷ edges) (i ∷ index) * item ≡ i * Row + place edges index * item
-  bytes_before i index = add-mul (i * product edges) (place edges index) item ∙ ap (λ n. n + place edges index * item) (mul_assoc i (product edges) item)
-
-  to_row : (byte : ℕ) → IsByteIn item C (edge ∷ edges) (s ∷ start) (n ∷ shape) byte → InRow byte
-  to_row byte (i ∷ index, (from, less, within), (low, high)) =
-      let before = bytes_before i index in (i, byte - i * Row, from, less, (index, within, (omega arith, omega arith)), omega arith)
-  to_row byte ([], within, _) = absurd within
-
-  in_row : (byte : ℕ) → InRow byte → IsByteIn item C (edge ∷ edges) (s ∷ start) (n ∷ shape) byte
-  in_row byte (i, b, from, less, (index, within, (low, high)), is) =
-      let before = bytes_before i index in (i ∷ index, (from, less, within), (omega arith, omega arith))
+  -- a byte of an element goes to that of the element so many rows further on
+  goes_on : (from to i : ℕ) → i < n → GoesTo item C edges start shape from to
+      → GoesTo item C (edge ∷ edges) (s ∷ start) (n ∷ shape) (from + (s + i) * Row) (to + i * (product shape * item))
+  goes_on from to i less goes =
+      let steps : s + i - s ≡ i = omega arith in
+      let in_chunk = add-mul ((s + i) * product edges) (place edges goes.index) item ∙ ap (λ m. m + place edges goes.index * item) (mul_assoc (s + i) (product edges) item) in
+      let in_box = add-mul (i * product shape) (place_within start shape goes.index) item
+      ∙ ap (λ m. m + place_within start shape goes.index * item) (mul_assoc i (product shape) item) in
+      record {
+        index = s + i ∷ goes.index;
+        within = (omega arith, omega arith, goes.within);
+        byte = goes.byte;
+        of_element = goes.of_element;
+        in_chunk = omega (arith, in_chunk, goes.in_chunk);
+        in_box = rw steps (omega (arith, in_box, goes.in_box));
+      }
 
   module _ (some : 0 < n) (within : s + n ≤ edge) where
     -- the box has all of each row
@@ -120,6 +173,7 @@ module _ (item edge s n : ℕ) (edges start shape : List ℕ) where
         → AreInRow item (edge ∷ edges) (s ∷ start) (n ∷ shape) (one_range (0 + s * Row) (n * Row)) (n == edge)
     all_of_rows was =
         let any = was.long in
+        let as_many : Row ≡ product shape * item = omega (arith, was.many 0) in
         let outer = mul_assoc edge (product edges) item in
         let rows = mul-le-mul_right Row within in
         let split = add-mul s n Row in
@@ -127,22 +181,19 @@ module _ (item edge s n : ℕ) (edges start shape : List ℕ) where
         record {
           long = omega arith;
           lists = refl;
-          those = λ f byte. (
-            λ has.
-                let (low, high) = (in_one f (n * Row) byte).0 has in
-                let at = byte - f + s * Row in
-                let sum = div-add-mod' at Row in
-                let part = mod-lt at any in
-                let (b, inside, is) = (was.those 0 (at % Row)).0 ((in_one 0 Row (at % Row)).1 (omega arith, omega arith)) in
-                let less : at / Row < s + n = (div-lt_iff_lt-mul any).1 (omega arith) in
-                (at, in_row at (at / Row, b, le-div s at Row any (omega arith), less, inside, omega arith), omega arith),
-            λ (at, has, same).
-                let (i, b, from, less, inner, is) = to_row at has in
-                let (_, part) = (in_one 0 Row b).0 ((was.those 0 b).1 (b, inner, refl)) in
-                let up = mul-le-mul_right Row from in
-                let down = row_fits i Row (s + n) Row less (omega arith) in
-                (in_one f (n * Row) byte).1 (omega arith, omega arith),
-          );
+          many = λ f. omega (arith, ap (λ m. n * m) as_many ∙ sym (mul_assoc n (product shape) item));
+          goes = λ f number byte only_one less.
+              let sum = div-add-mod' byte Row in
+              let i = byte / Row in
+              let few : i < n = (div-lt_iff_lt-mul any).1 less in
+              let (b, inner, is) = was.goes 0 0 (byte % Row) (omega arith) (mod-lt byte any) in
+              let row : i * (product shape * item) ≡ i * Row = ap (λ m. i * m) (sym as_many) in
+              let none : number ≡ 0 = omega (arith, only_one) in
+              let start_row = add-mul s i Row in (
+                b + (s + i) * Row,
+                rw none (subst (GoesTo item C (edge ∷ edges) (s ∷ start) (n ∷ shape) (b + (s + i) * Row)) (omega (arith, sum, row)) (goes_on b (0 * Row + byte % Row) i few inner)),
+                rw none (omega (arith, sum, is, start_row)),
+              );
           apart = λ f i j d less within. absurd (omega arith);
           lie = λ f m has.
               let at = only f m has in (
@@ -168,24 +219,22 @@ module _ (item edge s n : ℕ) (edges start shape : List ℕ) where
         record {
           long = was.long;
           lists = ap suc was.lists;
-          those = λ f byte. (
-            λ (m, has, low, high).
-                let (k, x, less, among, is) = in_repeated Row (begins f form.counts form.strides) n m has in
-                let (b, inside, same) = (was.those f (byte - k * Row)).0 (x, among, omega arith, omega arith) in
-                let sum = add-mul s k Row in
-                (b + (s + k) * Row, in_row (b + (s + k) * Row) (s + k, b, omega arith, omega arith, inside, refl), omega arith),
-            λ (at, has, same).
-                let (i, b, from, less, inner, is) = to_row at has in
-                let (m, there, up, _) = (was.those form.first b).1 (b, inner, refl) in
-                let (first, _, _) = was.lie form.first m there in
-                let sum : i * Row ≡ s * Row + (i - s) * Row = rest i from in
-                let (x, among, low, high) = (was.those f (byte - (i - s) * Row)).1 (b, inner, omega arith) in (
-                  x + (i - s) * Row,
-                  to_repeated Row (begins f form.counts form.strides) n (i - s) x (omega arith) among,
-                  omega arith,
-                  omega arith,
-                ),
-          );
+          many = λ f.
+              let xs = begins f form.counts form.strides in
+              ap (λ m. m * form.length) (repeated_length Row xs n) ∙ mul_assoc n (length xs) form.length ∙ ap (λ m. n * m) (was.many f)
+              ∙ sym (mul_assoc n (product shape) item);
+          goes = λ f number byte less of_range.
+              let xs = begins f form.counts form.strides in
+              let (i, j, few, within_row, is, there) = at_repeated Row xs n number less in
+              let (b, inner, at) = was.goes f j byte within_row of_range in
+              let rows : number * form.length ≡ i * (product shape * item) + j * form.length =
+              ap (λ m. m * form.length) is ∙ add-mul (i * length xs) j form.length
+              ∙ ap (λ m. m + j * form.length) (mul_assoc i (length xs) form.length ∙ ap (λ m. i * m) (was.many f)) in
+              let start_row = add-mul s i Row in (
+                b + (s + i) * Row,
+                subst (GoesTo item C (edge ∷ edges) (s ∷ start) (n ∷ shape) (b + (s + i) * Row)) (omega (arith, rows)) (goes_on b (j * form.length + byte) i few inner),
+                omega (arith, there, at, start_row),
+              );
           apart = λ f. repeated_apart Row (begins f form.counts form.strides) form.length f (was.apart f)
               (λ m has. let (from, _, short) = was.lie f m has in (from, short refl)) n;
           lie = λ f m has.
@@ -197,9 +246,6 @@ module _ (item edge s n : ℕ) (edges start shape : List ℕ) where
               (omega arith, omega arith, λ _. omega arith);
           all = λ not. absurd (true≢false (sym not));
         }
-      where
-        rest : (i : ℕ) → s ≤ i → i * Row ≡ s * Row + (i - s) * Row
-        rest i from = let same : i ≡ s + (i - s) = omega arith in ap (λ k. k * Row) same ∙ add-mul s (i - s) Row
 
     one_more : (form : Strided) (whole : Bool) → AreInRow item edges start shape form whole
         → AreInRow item (edge ∷ edges) (s ∷ start) (n ∷ shape) (along Row s n whole form) (whole && (n == edge))
@@ -219,10 +265,13 @@ module _ (item : ℕ) (any_item : 0 < item) where
       record {
         long = any_item;
         lists = refl;
-        those = λ f byte. (
-          λ has. let (low, high) = (in_one f item byte).0 has in (byte - f, ([], tt, (omega arith, omega arith)), omega arith),
-          λ (b, (index, within, (low, high)), is). let less : b < 0 * item + item = high in (in_one f item byte).1 (omega arith, omega arith),
-        );
+        many = λ f. omega arith;
+        goes = λ f number byte only_one less.
+            let none : number ≡ 0 = omega (arith, only_one) in (
+              byte,
+              record { index = []; within = tt; byte = byte; of_element = less; in_chunk = omega arith; in_box = rw none (omega arith) },
+              rw none (omega arith),
+            );
         apart = λ f i j d less within. absurd (omega arith);
         lie = λ f n has. let at : n ≡ f = only f n has in (omega arith, omega arith, λ not. absurd (true≢false not));
         all = λ _. ap (one_range 0) (sym single);
@@ -259,13 +308,16 @@ module _ (item : ℕ) (any_item : 0 < item) where
             some = λ _. all.long;
             are_ranges = ranges_in_order item order edges start shape ranges.length _ (record {
               those = λ byte. (
-                λ inside. (all.those ranges.first byte).1 (byte, inside, refl),
+                λ inside. (has_those item _ _ _ _ _ all ranges.first byte).1 (byte, inside, refl),
                 λ has.
-                    let (b, inside, at) = (all.those ranges.first byte).0 has in
+                    let (b, inside, at) = (has_those item _ _ _ _ _ all ranges.first byte).0 has in
                     let here : b ≡ byte = omega arith in
                     rw (← here) inside,
               );
               apart = all.apart ranges.first;
+              in_turn = λ number byte less of_range.
+                  let (b, goes, at) = all.goes ranges.first number byte less of_range in
+                  subst (λ from. GoesTo item C _ _ _ from (number * ranges.length + byte)) (omega arith) goes;
             });
           },
           λ (n, among, past). let (low, high, _) = all.lie ranges.first n among in omega arith,
@@ -286,6 +338,7 @@ module _ (item : ℕ) (any_item : 0 < item) where
                 λ (n, (k, small, is), _, _). absurd (omega arith),
               );
               apart = λ i j d less within. absurd (omega arith);
+              in_turn = λ number byte less of_range. absurd (omega arith);
             });
           },
           rw none (λ (n, (k, small, is), past). absurd (omega arith)),

@@ -1,7 +1,7 @@
 -- Which bytes of a chunk's object hold the elements of a box, where the object is the chunk's elements one behind another, each in as many bytes.
 -- Sources: Zarr V3 core, `bytes` codec, which writes elements in lexicographical order of their indices, and `transpose` codec; Zarr V2, `order`; the
 -- ranges are this library's own.
-use Rattle.std.specs.Prelude.{◌≡◌, ◌↔◌, ℕ, zero, suc, ◌+◌, ◌*◌, ◌<◌, ◌≤◌, List, [], ◌∷◌, ◌++◌, map, reverse, ◌⊎◌, Option, MatchOption, length}
+use Rattle.std.specs.Prelude.{◌≡◌, ◌↔◌, ℕ, zero, suc, ◌+◌, ◌-◌, ◌*◌, ◌<◌, ◌≤◌, List, [], ◌∷◌, ◌++◌, map, reverse, ◌⊎◌, Option, MatchOption, get_or, length}
 use Rattle.std.specs.List.{AllPairs, Contains}
 use Rattle.zarrs_chunk_base.specs.ArraySubset.{AreWithin}
 use Rattle.zarrs_chunk_base.specs.Greatest.{greatest}
@@ -21,6 +21,11 @@ abbrev pub place : (edges index : List ℕ) → ℕ
 place (edge ∷ edges) (i ∷ index) = i * product edges + place edges index
 place _ _ = 0
 
+-- how many elements of a box come before the one at these indices, in row-major order
+abbrev pub place_within : (start shape index : List ℕ) → ℕ
+place_within (s ∷ start) (n ∷ shape) (i ∷ index) = (i - s) * product shape + place_within start shape index
+place_within _ _ _ = 0
+
 -- the byte is one of those in which the element at these indices is stored, each element in `item` bytes
 abbrev pub IsByteOf : (item : ℕ) (edges index : List ℕ) → ℕ → Type 0
 IsByteOf item edges index byte = (place edges index * item ≤ byte) × (byte < place edges index * item + item)
@@ -29,6 +34,16 @@ IsByteOf item edges index byte = (place edges index * item ≤ byte) × (byte < 
 abbrev pub IsByteIn : (item : ℕ) → MemoryOrder → (edges start shape : List ℕ) → ℕ → Type 0
 IsByteIn item order edges start shape byte =
     (index : List ℕ) × AreWithin start shape index × IsByteOf item (in_order order edges) (in_order order index) byte
+
+-- The byte `from` of a chunk's object is the byte `to` of the elements of a box, where these stand one after another, in the order of the chunk: it is
+-- the same byte of the same element.
+pub record GoesTo (item : ℕ) (order : MemoryOrder) (edges start shape : List ℕ) (from to : ℕ) : Type 0 where
+  pub index : List ℕ
+  pub within : AreWithin start shape index
+  pub byte : ℕ
+  pub of_element : byte < item
+  pub in_chunk : from ≡ place (in_order order edges) (in_order order index) * item + byte
+  pub in_box : to ≡ place_within (in_order order start) (in_order order shape) (in_order order index) * item + byte
 
 -- so many times the same numbers, each time greater by a stride
 abbrev pub repeated : (count stride : ℕ) → List ℕ → List ℕ
@@ -49,10 +64,13 @@ abbrev pub HasByte : (length : ℕ) (numbers : List ℕ) → ℕ → Type 0
 HasByte length numbers byte = (n : ℕ) × Contains numbers n × (n ≤ byte) × (byte < n + length)
 
 -- The ranges, each so long, that begin at these numbers: together they have the bytes of the box's elements; and each begins past the end of those
--- before it, so they come in order, no byte is in two of them, and no two can be joined.
-pub record AreRanges (item : ℕ) (order : MemoryOrder) (edges start shape : List ℕ) (length : ℕ) (numbers : List ℕ) : Type 0 where
-  pub those : (byte : ℕ) → IsByteIn item order edges start shape byte ↔ HasByte length numbers byte
-  pub apart : AllPairs (λ one later. one + length < later) numbers
+-- before it, so they come in order, no byte is in two of them, and no two can be joined. One after another they are the bytes of the box's elements, in
+-- the order of the chunk.
+pub record AreRanges (item : ℕ) (order : MemoryOrder) (edges start shape : List ℕ) (many : ℕ) (numbers : List ℕ) : Type 0 where
+  pub those : (byte : ℕ) → IsByteIn item order edges start shape byte ↔ HasByte many numbers byte
+  pub apart : AllPairs (λ one later. one + many < later) numbers
+  pub in_turn : (number byte : ℕ) → number < length numbers → byte < many
+      → GoesTo item order edges start shape (get_or numbers number 0 + byte) (number * many + byte)
 
 -- The ranges that are found of a box: it lies in the chunk, and unless it is empty a number counts the chunk's bytes. There are as many counts as
 -- strides; an empty box has no range, and of another one each range has some byte.

@@ -18,6 +18,7 @@
 //! | What a walk that `copies_of_region` answers gives, one group after another, is the copy of the region | [`the_walk_gives_the_region`] |
 //! | Each element of a region is moved, place to place, by exactly one copy | [`each_element_of_a_region_is_copied_once`] |
 //! | Each chunk that takes some of a region has one group; one that is whole is written whole | [`each_chunk_of_a_region_has_one_group`] |
+//! | Each box that has a cover has a plan; there is a rechunking, and the copy of a region, into any chunks | [`there_is_a_plan`] |
 //! | Byte ranges of the form that is answered have the bytes of the box's elements, and no other | [`byte_ranges_have_the_bytes_of_the_box`] |
 //! | Grids that one configuration makes of two array shapes share their chunks | [`grids_of_one_configuration_share_their_chunks`] |
 //! | What a walk that `changes` answers gives, one after another, is the plan of the resize | [`the_walk_gives_the_resize`] |
@@ -36,6 +37,7 @@ ghost use Rattle.zarrs_chunk_base.specs.Greatest.{AllFit};
 ghost use Rattle.zarrs_chunk_base.specs.Grid.{Grid};
 ghost use Rattle.zarrs_chunk_base.specs.Metadata.{Extension};
 ghost use Rattle.zarrs_chunks.specs.GridKinds.{IsGrid};
+ghost use Rattle.zarrs_chunks.specs.Subsets.{IsCover};
 ghost use Rattle.zarrs_chunks.specs.Walks.{chunks_in, counted_from};
 ghost use Rattle.zarrs_chunk_plan.specs.Bytes.{FindsRanges};
 ghost use Rattle.zarrs_chunk_parts.specs.Plan.{HasElement, IsPart, IsPlan};
@@ -419,6 +421,33 @@ pub fn each_chunk_of_a_region_has_one_group<
         → AreBelow (array_sizes (H.dimensions target.now.grid)) index
         → (copy : Part × Part) × Contains (copies_of groups) copy × ((steps : List ℕ) × (from : List ℕ)
         × MovesTo (G.dimensions source.now.grid) (H.dimensions target.now.grid) copy steps from index) }
+{}
+
+/// There is what the laws above are about, since every encoding has a key of each chunk: a plan of each box of elements that has a cover, a rechunking
+/// into the chunks of each box, and the copy of each region that lies in both arrays.
+pub fn there_is_a_plan<
+    G: ChunkGridTraits,
+    E: ChunkKeyEncodingTraits,
+    H: ChunkGridTraits,
+    F: ChunkKeyEncodingTraits,
+>(source: &StoredArray<G, E>, target: &StoredArray<H, F>)
+    ensures of_a_read { (elements cover : Box) → IsBox elements → (¬ IsEmptyBox elements)
+        → IsCover (G.dimensions source.now.grid) elements cover → (parts : List Part)
+        × IsPlan (G.dimensions source.now.grid) (E.is_key source.now.encoding) elements parts }
+    ensures of_a_rechunking { array_sizes (G.dimensions source.now.grid)
+        ≡ array_sizes (H.dimensions target.now.grid)
+        → IsBox (array_box (H.dimensions target.now.grid)) → (chunks targets : Box) → IsBox targets
+        → AreTargets (H.dimensions target.now.grid) (array_box (H.dimensions target.now.grid))
+        (IsInside chunks) targets → (groups : List Group)
+        × IsRechunking (G.dimensions source.now.grid) (E.is_key source.now.encoding)
+        (H.dimensions target.now.grid) (F.is_key target.now.encoding) chunks groups }
+    ensures of_a_region { (region targets : Box) (at : List ℕ) → IsBox region
+        → IsBox (moved at region) → CanBeMoved (array_sizes (G.dimensions source.now.grid))
+        (array_sizes (H.dimensions target.now.grid)) region at → IsBox targets
+        → AreTargets (H.dimensions target.now.grid) (moved at region) AnyChunk targets
+        → (groups : List Group) × IsRegionCopy (G.dimensions source.now.grid)
+        (E.is_key source.now.encoding) (H.dimensions target.now.grid) (F.is_key target.now.encoding)
+        region at groups }
 {}
 
 /// Grids that one configuration makes of two array shapes, of whatever kind it is, hold each index that both arrays have in the same chunk. So they

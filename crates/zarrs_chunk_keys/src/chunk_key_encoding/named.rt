@@ -18,6 +18,7 @@ ghost use Rattle.zarrs_chunk_keys.specs.ChunkKey.{IsKey, separator_of, suffix_of
 ghost use Rattle.zarrs_chunk_keys.specs.KeyKinds.{IsEncoding, IsEncodingFault, IsEncodingIn, IsNoEncodingIn, key_kind, key_kinds, kind_of};
 ghost use Rattle.zarrs_chunk_keys.specs.declared.chunk_key_encoding.named.ChunkKeyEncoding.TheVariants.{Default, DefaultSuffix, V2};
 ghost use Rattle.zarrs_chunk_keys.specs.lemmas.ExactKeys.{exact};
+ghost use Rattle.zarrs_chunk_keys.specs.lemmas.HaveKeys.{has_key};
 ghost use Rattle.zarrs_chunk_keys.specs.seen.Encodings.{encoding_in};
 
 use crate::ChunkKeyEncodingTraits;
@@ -178,6 +179,8 @@ impl ChunkKeyEncodingTraits for ChunkKeyEncoding {
 
     ghost exact = { λ encoding chunk other key fit other_fit same is also.
         exact (encoding_in encoding) chunk other key same is also };
+
+    ghost has_key = { λ encoding. has_key (encoding_in encoding) };
 
     fn create(
         alloc: Global,

@@ -9,6 +9,7 @@ ghost use Rattle.zarrs_chunk_keys.specs.ChunkKey.{Encoding, IsKey};
 ghost use Rattle.zarrs_chunk_keys.specs.Decoded.{IsDecoded};
 ghost use Rattle.zarrs_chunk_keys.specs.KeyKinds.{IsEncoding, IsEncodingFault, KeyKind, key_kind, kind_of};
 ghost use Rattle.zarrs_chunk_keys.specs.lemmas.ExactKeys as keys;
+ghost use Rattle.zarrs_chunk_keys.specs.lemmas.HaveKeys.{has_key};
 
 use crate::ChunkKeyEncodingTraits;
 use crate::cut_back::or_cut_back;
@@ -75,6 +76,8 @@ impl<E: OfKind> ChunkKeyEncodingTraits for E {
 
     ghost exact = { λ made chunk other key fit other_fit same is also.
         keys.exact (E.encoding made) chunk other key same is also };
+
+    ghost has_key = { λ made. has_key (E.encoding made) };
 
     fn create(alloc: Global, metadata: &MetadataV3) -> Result<E, Refusal<PluginCreateError>>
         ensures { MatchResult result

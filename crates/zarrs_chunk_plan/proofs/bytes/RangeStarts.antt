@@ -76,7 +76,7 @@ module _ (stride : ℕ) (numbers : List ℕ) where
       let up = row_fits k stride count stride less (omega arith) in
       omega arith))
 
-  repeated_length : (count : ℕ) → length (repeated count stride numbers) ≡ count * length numbers
+  pub repeated_length : (count : ℕ) → length (repeated count stride numbers) ≡ count * length numbers
   repeated_length zero = let none : 0 ≡ 0 * length numbers = omega arith in none
   repeated_length (suc count) =
       let both = ap length (repeated_more stride count numbers) in
@@ -85,6 +85,28 @@ module _ (stride : ℕ) (numbers : List ℕ) where
       let same = length-map numbers (λ (n : ℕ). n + count * stride) in
       let counts = suc-mul count (length numbers) in
       omega arith
+
+  -- one of a number is that of some number, so many times later
+  pub at_repeated : (count number : ℕ) → number < length (repeated count stride numbers)
+      → (i : ℕ) × (j : ℕ) × (i < count) × (j < length numbers) × (number ≡ i * length numbers + j)
+      × (get_or (repeated count stride numbers) number 0 ≡ get_or numbers j 0 + i * stride)
+  at_repeated zero number less = absurd (omega arith)
+  at_repeated (suc count) number less =
+      let before = repeated count stride numbers in
+      let last = map (λ n. n + count * stride) numbers in
+      let long = repeated_length count in
+      let same = ap (λ xs. get_or xs number 0) (repeated_more stride count numbers) in
+      ⊎_elim
+      (λ (early : number < length before).
+      let (i, j, few, within, is, there) = at_repeated count number early in
+      (i, j, omega arith, within, is, same ∙ get_or_append_left before last 0 number early ∙ there))
+      (λ (le : length before ≤ number).
+      let j = number - length before in
+      let within : j < length numbers = omega (arith, repeated_length (suc count), less, suc-mul count (length numbers)) in
+      let split : number ≡ length before + j = omega arith in
+      (count, j, omega arith, within, omega arith,
+      same ∙ ap (λ k. get_or (before ++ last) k 0) split ∙ get_or-append-add before last j 0 ∙ get_or-map (λ n. n + count * stride) numbers j 0 0 within))
+      (cases_lt number (length before))
 
 -- ---- dimension by dimension
 

@@ -74,4 +74,15 @@ ranges_in_order item F edges start shape long numbers are = record {
     ),
   );
   apart = are.apart;
+  in_turn = λ number byte less of_range.
+      let goes = are.in_turn number byte less of_range in
+      record {
+        index = reverse goes.index;
+        within = rw (reverse-reverse start, reverse-reverse shape) at
+            (inside_onto (reverse start) (reverse shape) goes.index [] [] [] goes.within tt);
+        byte = goes.byte;
+        of_element = goes.of_element;
+        in_chunk = rw (reverse-reverse goes.index) goes.in_chunk;
+        in_box = rw (reverse-reverse goes.index) goes.in_box;
+      };
 }

@@ -2,11 +2,10 @@
 use Rattle.std.proofs.Common.{◌≡◌, ℕ, suc, ◌+◌, ◌-◌, ◌*◌, ◌/◌, ◌<◌, ◌≤◌, ap, arith, fold, max, subst, ⊎_elim}
 use Rattle.std.proofs.Math.Nat.{div-mul_cancel, pos_of_dvd_of_pos}
 use Rattle.std.proofs.lemmas.Bool.{cases_lt}
-use Rattle.std.proofs.lemmas.List.FromFn.{length-map-range_with_len}
 use Rattle.std.specs.List.{sum}
 use Rattle.zarrs_chunk_plan.specs.seen.RegularCounts.{Divides, all_meeting, meeting}
 use Rattle.zarrs_chunk_plan.proofs.counts.Divisors.{agree}
-use Rattle.zarrs_chunk_plan.proofs.counts.RegularCounts.{Greatest, all_either, all_met, greatest_told, keeps, met_at_most, rises}
+use Rattle.zarrs_chunk_plan.proofs.counts.RegularCounts.{IsCeiling, all_met, greatest_met, keeps, met_at_most, rises}
 
 -- how many chunks of the other edge behind the first one start where a chunk of this edge does
 abbrev pub together : (a g first many : ℕ) → ℕ
@@ -17,12 +16,10 @@ abbrev pub starts : (a b first many : ℕ) → ℕ
 starts a b first many = ((first + (many - 1) + 1) * b - 1) / a - first * b / a
 
 pub record Told (a b first many g : ℕ) : Type 0 where
-  pub some_divisor : 0 < g
-  pub some_period : 0 < a / g
   pub few_together : together a g first many ≤ many
   pub total : starts a b first many + (many - together a g first many) ≡ sum (all_meeting a b first many)
   pub at_most : sum (all_meeting a b first many) ≤ many * b
-  pub greatest : Greatest (suc ((b - 1) / a)) many (sum (all_meeting a b first many)) (fold max 0 (all_meeting a b first many))
+  pub greatest : IsCeiling (sum (all_meeting a b first many)) many (fold max 0 (all_meeting a b first many))
 
 module _ (a b first many g : ℕ) (some_a : 0 < a) (some_b : 0 < b) (some : 0 < many) (one : Divides g a) (other : Divides g b)
     (combines : (m c : ℕ) → Divides m (c * a) → Divides m (c * b) → Divides m (c * g)) where
@@ -52,18 +49,10 @@ module _ (a b first many g : ℕ) (some_a : 0 < a) (some_b : 0 < b) (some : 0 < 
       let few = few_together in
       omega arith
 
-  greatest_is : Greatest (suc ((b - 1) / a)) many (sum (all_meeting a b first many)) (fold max 0 (all_meeting a b first many))
-  greatest_is =
-      subst (λ n. Greatest (suc ((b - 1) / a)) n (sum (all_meeting a b first many)) (fold max 0 (all_meeting a b first many)))
-      (length-map-range_with_len (meeting a b) first many)
-      (greatest_told (suc ((b - 1) / a)) (all_meeting a b first many) (all_either a b first many some_a some_b))
-
   pub told : Told a b first many g
   told = record {
-    some_divisor = some_g;
-    some_period = some_period;
     few_together = few_together;
     total = total_is;
     at_most = met_at_most a b first many some_a some_b;
-    greatest = greatest_is;
+    greatest = greatest_met a b first many some_a some_b some;
   }

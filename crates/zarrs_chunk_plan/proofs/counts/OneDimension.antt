@@ -7,7 +7,8 @@ use Rattle.zarrs_chunk_base.specs.Greatest.{AllFit}
 use Rattle.zarrs_chunk_axes.specs.Along.{Along, IsRange}
 use Rattle.zarrs_chunks.proofs.Chains.{no_later}
 use Rattle.zarrs_chunk_plan.specs.Region.{EndWithin}
-use Rattle.zarrs_chunk_plan.specs.seen.Sources.{AreRanges, TakesSome, counters_from, met, met_along, met_by_range, met_in, taken, taken_from}
+use Rattle.zarrs_chunk_plan.specs.declared.counts.sources.Side.{Side}
+use Rattle.zarrs_chunk_plan.specs.seen.Sources.{AreRanges, IsSide, OfSide, TakesSome, counters_from, met, met_along, met_by_range, met_in, taken, taken_from}
 use Rattle.zarrs_chunk_plan.proofs.counts.MetChunks.{met_at_most, met_is}
 use Rattle.zarrs_chunk_plan.proofs.counts.Written.{RangesTake, take_long}
 
@@ -58,6 +59,12 @@ two P source target j k chains also is =
       at = λ Q has. second.at (Q first.d) (first.at (λ s. Along (Q s) target k) has);
       back = λ Q has. first.back (λ s. Along (Q s) target k) (second.back (Q first.d) has);
     }
+
+-- those of a side
+pub sided : {G H : Type 0} {sources : G → List Dimension} {targets : H → List Dimension} → ((g : G) → AllByRecursion IsChain (sources g))
+    → ((h : H) → AllByRecursion IsChain (targets h)) → (side : Side G H) → OfSide sources targets side (IsSide side)
+    → Two (IsSide side) (sources side.source.now) (targets side.target.now) side.source_dimension side.target_dimension
+sided chained also side = two (IsSide side) _ _ side.source_dimension side.target_dimension (chained side.source.now) (also side.target.now)
 
 -- ---- what a chunk of the target takes of a range
 

@@ -5,6 +5,7 @@ use Rattle.std.specs.List.{AllByRecursion, sum}
 use Rattle.zarrs_chunk_plan.specs.seen.RegularCounts.{all_meeting, meeting}
 use Rattle.std.proofs.Math.Nat.{div-eq_of_lt-le, mod-lt, mod-add-div', mul-le-mul_right}
 use Rattle.std.proofs.lemmas.Bool.{cases_lt}
+use Rattle.std.proofs.lemmas.List.FromFn.{length-map-range_with_len}
 use Rattle.std.proofs.lemmas.List.Sums.{sum_by-cons}
 use Rattle.std.proofs.lemmas.Nat.{le-div}
 
@@ -137,7 +138,7 @@ either a b c some_a some_b =
     let quotient : (c * b + (b - 1)) / a ≡ ((c + 1) * b - 1) / a = ap (λ m. m / a) is in
     (omega arith, omega arith)
 
-pub all_either : (a b first many : ℕ) → 0 < a → 0 < b → AllByRecursion (IsEither (suc ((b - 1) / a))) (all_meeting a b first many)
+all_either : (a b first many : ℕ) → 0 < a → 0 < b → AllByRecursion (IsEither (suc ((b - 1) / a))) (all_meeting a b first many)
 all_either a b first zero some_a some_b = tt
 all_either a b first (suc many) some_a some_b = (either a b first some_a some_b, all_either a b (first + 1) many some_a some_b)
 
@@ -160,33 +161,52 @@ fold_max_push (x ∷ xs) y =
     let two = fold_max xs (max 0 x) in
     omega arith
 
--- so the greatest is told by their sum
-pub record Greatest (n many total greatest : ℕ) : Type 0 where
-  pub least : n * many ≤ total
-  pub at_most : greatest ≤ suc n
-  pub same : total ≡ n * many → 0 < many → greatest ≡ n
-  pub more : n * many < total → greatest ≡ suc n
+-- so the greatest of them is their mean, rounded up
+abbrev pub IsCeiling : (total many greatest : ℕ) → Type 0
+IsCeiling total many greatest = (total ≤ greatest * many) × (greatest * many < total + many)
 
-pub greatest_told : (n : ℕ) (xs : List ℕ) → AllByRecursion (IsEither n) xs → Greatest n (length xs) (sum xs) (fold max 0 xs)
-greatest_told n [] each = record { least = omega arith; at_most = omega arith; same = λ is some. absurd (omega arith); more = λ more. absurd (omega arith) }
-greatest_told n (x ∷ xs) each =
-    let (low, high) = each.0 in
-    let others = greatest_told n xs each.1 in
-    let least : n * length xs ≤ sum xs = others.least in
-    let at_most : fold max 0 xs ≤ suc n = others.at_most in
-    let greatest : fold max 0 (x ∷ xs) ≡ max x (fold max 0 xs) = ap (λ m. fold max m xs) (let z : max 0 x ≡ x = omega arith in z) ∙ fold_max xs x in
-    let total : sum (x ∷ xs) ≡ x + sum xs = sum_by-cons (λ m. m) x xs in
-    record {
-      least = omega arith;
-      at_most = omega arith;
-      same = λ is some.
-          let here : x ≡ n = omega arith in
-          ⊎_elim (λ (some : 0 < length xs). let rest : fold max 0 xs ≡ n = others.same (omega arith) some in omega arith)
-          (λ (none : length xs ≤ 0). let empty = none_of xs (omega arith) in omega arith) (cases_lt 0 (length xs));
-      more = λ more.
-          ⊎_elim (λ (above : n < x). omega arith)
-          (λ (not_above : x ≤ n). let rest : fold max 0 xs ≡ suc n = others.more (omega arith) in omega arith) (cases_lt n x);
-    } where
-      none_of : (ys : List ℕ) → length ys ≡ 0 → fold max 0 ys ≡ 0
-      none_of [] is = refl
-      none_of (y ∷ ys) is = absurd (omega arith)
+record Greatest (n many total greatest : ℕ) : Type 0 where
+  least : n * many ≤ total
+  either : IsEither n greatest
+  ceiling : IsCeiling total many greatest
+
+greatest_is : (n x : ℕ) (xs : List ℕ) → AllByRecursion (IsEither n) (x ∷ xs)
+    → Greatest n (suc (length xs)) (sum (x ∷ xs)) (fold max 0 (x ∷ xs))
+greatest_is n x [] each = record { least = omega (arith, each.0); either = each.0; ceiling = (omega arith, omega arith) }
+greatest_is n x (y ∷ ys) each =
+    let others = greatest_is n y ys each.1 in
+    let g = fold max 0 (y ∷ ys) in
+    let many = suc (length ys) in
+    let total : sum (x ∷ y ∷ ys) ≡ x + sum (y ∷ ys) = sum_by-cons (λ m. m) x (y ∷ ys) in
+    let greatest : fold max 0 (x ∷ y ∷ ys) ≡ max x g = ap (λ m. fold max m (y ∷ ys)) (let first : max 0 x ≡ x = omega arith in first) ∙ fold_max (y ∷ ys) x in
+    ⊎_elim
+    (λ (less : g < x).
+    let most : x * many ≡ g * many + many = ap (λ m. m * many) (let next : x ≡ g + 1 = omega (arith, each.0, others.either, less) in next) ∙ omega arith in
+    rw (total, greatest, let is : max x g ≡ x = omega (arith, less) in is)
+    (record {
+      least = omega (arith, each.0, others.least);
+      either = each.0;
+      ceiling = (omega (arith, others.ceiling, most), omega (arith, others.least, others.either, each.0, less, most));
+    }))
+    (λ (le : x ≤ g).
+    rw (total, greatest, let is : max x g ≡ g = omega (arith, le) in is)
+    (record {
+      least = omega (arith, each.0, others.least);
+      either = others.either;
+      ceiling = (omega (arith, others.ceiling, le), omega (arith, others.ceiling, others.either, each.0));
+    }))
+    (cases_lt g x)
+
+-- a mean is rounded up to one number
+pub one_ceiling : (total many one other : ℕ) → IsCeiling total many one → IsCeiling total many other → one ≤ other
+one_ceiling total many one other is also =
+    ⊎_elim (λ (less : other < one). let most : suc other * many ≤ one * many = mul-le-mul_right many less in absurd (omega (arith, is, also, most)))
+    (λ (le : one ≤ other). le) (cases_lt other one)
+
+pub greatest_met : (a b first many : ℕ) → 0 < a → 0 < b → 0 < many
+    → IsCeiling (sum (all_meeting a b first many)) many (fold max 0 (all_meeting a b first many))
+greatest_met a b first zero some_a some_b some = absurd (omega (arith, some))
+greatest_met a b first (suc many) some_a some_b some =
+    let is = greatest_is (suc ((b - 1) / a)) (meeting a b first) (all_meeting a b (first + 1) many) (all_either a b first (suc many) some_a some_b) in
+    subst (λ n. IsCeiling (sum (all_meeting a b first (suc many))) (suc n) (fold max 0 (all_meeting a b first (suc many))))
+    (length-map-range_with_len (meeting a b) (first + 1) many) is.ceiling

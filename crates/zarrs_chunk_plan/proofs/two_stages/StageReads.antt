@@ -14,11 +14,13 @@ use Rattle.zarrs_chunk_plan.specs.Counts.{product}
 use Rattle.zarrs_chunk_plan.specs.Rechunking.{Group, IsRechunking, all_chunks_box, array_box, copies_of}
 use Rattle.zarrs_chunk_plan.specs.Stages.{AnyKey, AreStages}
 use Rattle.zarrs_chunk_plan.specs.declared.two_stages.fewest.Edge.{Edge}
-use Rattle.zarrs_chunk_plan.specs.seen.Ends.{AreOfOneSize}
+use Rattle.zarrs_chunk_plan.specs.declared.two_stages.stages.Ends.{Ends}
+use Rattle.zarrs_chunk_plan.specs.seen.Ends.{AreOfOneSize, OfEnds}
 use Rattle.zarrs_chunk_plan.specs.seen.Sources.{AreRanges, counters, counters_from, home_from, met, met_along, met_by_range, met_in}
 use Rattle.zarrs_chunk_plan.specs.seen.Stages.{AreRead, AreRows, IsChoice, IsRow, edge_of, numbers_of}
 use Rattle.zarrs_chunk_plan.specs.seen.Used.{UsesFirst}
 use Rattle.zarrs_chunk_plan.proofs.counts.CountedCopies.{are_taking, copies_many}
+use Rattle.zarrs_chunk_plan.proofs.counts.OneDimension.{Two, two}
 use Rattle.zarrs_chunk_plan.proofs.two_stages.EqualChunks.{are_chains, counted_meet, first_held, one_box, sizes_are}
 use Rattle.zarrs_chunk_plan.proofs.HeldBoxes.{some_chunk}
 use Rattle.zarrs_chunk_plan.proofs.Rechunkings.{is_counted}
@@ -136,6 +138,12 @@ ends_at (s ∷ source) (t ∷ target) (n ∷ used) (suc k) same fit fit_used use
 ends_at [] target used k same fit fit_used uses within = absurd (omega arith)
 ends_at (_ ∷ _) [] used k same fit fit_used uses within = cc
 ends_at (_ ∷ _) (_ ∷ _) [] k same fit fit_used uses within = absurd uses
+
+-- so what the stages are between are two dimensions
+pub ended : {G H : Type 0} {sources : G → List Dimension} {targets : H → List Dimension} → ((g : G) → AllByRecursion IsChain (sources g))
+    → ((h : H) → AllByRecursion IsChain (targets h)) → (ends : Ends G H) → OfEnds sources targets ends (AreOfOneSize ends.size ends.chunks)
+    → Two (AreOfOneSize ends.size ends.chunks) (sources ends.source.now) (targets ends.target.now) ends.dimension ends.dimension
+ended chained also ends = two (AreOfOneSize ends.size ends.chunks) _ _ ends.dimension ends.dimension (chained ends.source.now) (also ends.target.now)
 
 -- rows that are told along each dimension
 pub rows_are : (source target : List Dimension) (used : List ℕ) (rows : List (List Edge)) → length source ≡ length target → length used ≡ length target

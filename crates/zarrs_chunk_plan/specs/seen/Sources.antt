@@ -1,7 +1,7 @@
 -- How many chunks of the source share elements with a chunk of the target, dimension by dimension, where a box of the source's elements goes to a box
 -- of the target's.
-use Rattle.std.specs.Prelude.{◌≡◌, ℕ, zero, suc, ◌+◌, ◌-◌, ◌<◌, ◌≤◌, IsTrue, List, [], ◌∷◌, cond, length, map, max, min, nat_lt}
-use Rattle.std.specs.List.{range_with_len}
+use Rattle.std.specs.Prelude.{◌≡◌, ℕ, zero, suc, ◌+◌, ◌-◌, ◌<◌, ◌≤◌, IsTrue, List, [], ◌∷◌, cond, fold, length, map, max, min, nat_lt}
+use Rattle.std.specs.List.{range_with_len, sum}
 use Rattle.zarrs_chunk_base.specs.ArraySubset.{Box, IsBox, IsInside}
 use Rattle.zarrs_chunk_base.specs.Dimension.{Dimension, array_sizes}
 use Rattle.zarrs_chunk_base.specs.Greatest.{greatest}
@@ -36,6 +36,10 @@ met_along source target first at size chunk = met source (first + (taken_from ta
 -- with each of `chunks` chunks of the target, from `chunk` on
 abbrev pub met_by_range : (source target : Dimension) → (first at size chunk chunks : ℕ) → List ℕ
 met_by_range source target first at size chunk chunks = map (met_along source target first at size) (range_with_len chunk chunks)
+
+-- the two numbers are the sum of a list, and its greatest number
+abbrev pub AreSumAndMost : List ℕ → ℕ × ℕ → Type 0
+AreSumAndMost row (in_all, most) = (in_all ≡ sum row) × (most ≡ fold max 0 row)
 
 -- the chunk takes some of a range from `at` on
 abbrev pub TakesSome : Dimension → (at size chunk : ℕ) → Type 0

@@ -51,7 +51,7 @@ pub struct Counts {
 
 /// The counts of the plan of reading a box of elements. `None` where the box has no cover.
 ///
-/// It takes the time and the memory of the cover. Of an encoding that has no key for some chunk nothing is said.
+/// It takes the time and the memory of the cover.
 ///
 /// # Errors
 /// As of [`parts`](crate::parts).
@@ -96,8 +96,7 @@ fn at_most_one(alloc: Global, numbers: &[u64]) -> Result<ArrayShape, AllocError>
 /// The counts of the plan of a rechunking into the chunks of a box.
 ///
 /// It takes some look-ups for each chunk that is written, along each dimension by itself, and only a few along a dimension that is regular in both
-/// grids. If the others have more than 2^20 chunks, added up, nothing is gone through, and there is no count of copies. Nothing is said of an encoding
-/// that has no key for some chunk.
+/// grids. If the others have more than 2^20 chunks, added up, nothing is gone through, and there is no count of copies.
 ///
 /// # Errors
 /// As of [`copies`](crate::copies).
@@ -149,7 +148,7 @@ pub fn counts_of_rechunking<
 ///
 /// It takes some look-ups for each chunk of the target that takes some of the region, along each dimension by itself, and only a few along a dimension
 /// that is regular in both grids, if the region stays where it is along it. If the others have more than 2^20 chunks, added up, nothing is gone through,
-/// and there is no count of copies. Nothing is said of an encoding that has no key for some chunk.
+/// and there is no count of copies.
 ///
 /// # Errors
 /// As of [`copies_of_region`](crate::copies_of_region).

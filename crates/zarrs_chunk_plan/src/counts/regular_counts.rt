@@ -1,8 +1,8 @@
 //! How many chunks of one regular grid share elements with chunks of another, without a walk over them.
-ghost use Rattle.std.specs.Prelude.{◌≡◌, ◌+◌, ◌*◌, ◌<◌, ◌^◌, ℕ, fold, max};
+ghost use Rattle.std.specs.Prelude.{◌+◌, ◌*◌, ◌<◌, ◌^◌, ℕ};
 ghost use Rattle.std.specs.Int.NonZero.{non_zero_u64_get};
-ghost use Rattle.std.specs.List.{sum};
 ghost use Rattle.zarrs_chunk_plan.specs.seen.RegularCounts.{Divides, all_meeting};
+ghost use Rattle.zarrs_chunk_plan.specs.seen.Sources.{AreSumAndMost};
 
 use std::num::NonZeroU64;
 
@@ -11,10 +11,8 @@ use std::num::NonZeroU64;
 pub(crate) fn met_by_whole(edge: NonZeroU64, other: NonZeroU64, first: u64, many: u64) -> (u64, u64)
     requires some { 0 < many }
     requires fits { (first + many) * non_zero_u64_get other < 2 ^ 64 }
-    ensures sum { result.0 ≡ sum (all_meeting (non_zero_u64_get edge)
-        (non_zero_u64_get other) first many) }
-    ensures most { result.1 ≡ fold max 0 (all_meeting (non_zero_u64_get edge)
-        (non_zero_u64_get other) first many) }
+    ensures { AreSumAndMost (all_meeting (non_zero_u64_get edge) (non_zero_u64_get other)
+        first many) result }
 {
     let edge = edge.get();
     let other = other.get();
@@ -23,10 +21,10 @@ pub(crate) fn met_by_whole(edge: NonZeroU64, other: NonZeroU64, first: u64, many
     let last = first + (many - 1);
     let together = last / period - first / period;
     let starts = ((last + 1) * other - 1) / edge - first * other / edge;
-    let sum = starts + (many - together);
-    let least = (other - 1) / edge + 1;
-    let most = if sum > least * many { least + 1 } else { least };
-    (sum, most)
+    // Nothing is cut off: chunks of the other edge that start together with one are among the many, and each element is in one that is met.
+    let sum = starts.saturating_add(many.saturating_sub(together));
+    // No two chunks of the other edge meet numbers that differ by more than 1.
+    (sum, sum.div_ceil(many))
 }
 
 /// The greatest number that divides both.

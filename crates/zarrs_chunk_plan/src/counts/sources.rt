@@ -4,7 +4,7 @@ ghost use Rattle.std.specs.Int.NonZero.{non_zero_u64_get};
 ghost use Rattle.std.specs.List.{sum};
 ghost use Rattle.zarrs_chunk_axes.specs.Along.{HoldsAlong, IsRegularAlong};
 ghost use Rattle.zarrs_chunk_plan.specs.Counts.{product};
-ghost use Rattle.zarrs_chunk_plan.specs.seen.Sources.{AreTaking, IsSide, OfSide, counters, met_along, met_by_side};
+ghost use Rattle.zarrs_chunk_plan.specs.seen.Sources.{AreSumAndMost, AreTaking, IsSide, OfSide, counters, met_along, met_by_side};
 ghost use Rattle.zarrs_chunk_plan.specs.seen.TargetCounts.{met_by_each};
 
 use crate::counts::regular_counts::met_by_whole;
@@ -108,10 +108,8 @@ pub(crate) fn sources_along<G: ChunkGridTraits, H: ChunkGridTraits>(
     side: &Side<G, H>,
 ) -> Result<(u64, u64), AllocError>
     requires { OfSide G.dimensions H.dimensions side.now (IsSide side.now) }
-    ensures sum { IfOk result (λ along. OfSide G.dimensions H.dimensions side.now
-        (λ s t. along.0 ≡ sum (met_by_side side.now s t))) }
-    ensures most { IfOk result (λ along. OfSide G.dimensions H.dimensions side.now
-        (λ s t. along.1 ≡ fold max 0 (met_by_side side.now s t))) }
+    ensures { IfOk result (λ along. OfSide G.dimensions H.dimensions side.now
+        (λ s t. AreSumAndMost (met_by_side side.now s t) along)) }
 {
     let Some((edge, other)) = edges_of_most(side) else {
         return sources_one_by_one(alloc, side);
@@ -120,7 +118,8 @@ pub(crate) fn sources_along<G: ChunkGridTraits, H: ChunkGridTraits>(
     let first = sources_at(alloc, side, 0)?;
     let last = sources_at(alloc, side, side.chunks - 1)?;
     let (sum, most) = met_by_whole(edge, other, side.chunk + 1, side.chunks - 2);
-    Ok((first + sum + last, first.max(most).max(last)))
+    let in_all = first.saturating_add(sum).saturating_add(last);
+    Ok((in_all, first.max(most).max(last)))
 }
 
 /// Returns the edges of the source's chunks and of the target's. `None` if a dimension isn't regular, if elements don't keep their index, or if there are
@@ -152,16 +151,14 @@ fn sources_one_by_one<G: ChunkGridTraits, H: ChunkGridTraits>(
     side: &Side<G, H>,
 ) -> Result<(u64, u64), AllocError>
     requires { OfSide G.dimensions H.dimensions side.now (IsSide side.now) }
-    ensures sum { IfOk result (λ along. OfSide G.dimensions H.dimensions side.now
-        (λ s t. along.0 ≡ sum (met_by_side side.now s t))) }
-    ensures most { IfOk result (λ along. OfSide G.dimensions H.dimensions side.now
-        (λ s t. along.1 ≡ fold max 0 (met_by_side side.now s t))) }
+    ensures { IfOk result (λ along. OfSide G.dimensions H.dimensions side.now
+        (λ s t. AreSumAndMost (met_by_side side.now s t) along)) }
 {
     let mut sum = 0;
     let mut most = 0;
     for steps in 0..side.chunks {
         let sources = sources_at(alloc, side, steps)?;
-        sum += sources;
+        sum = sum.saturating_add(sources);
         most = most.max(sources);
     }
     Ok((sum, most))

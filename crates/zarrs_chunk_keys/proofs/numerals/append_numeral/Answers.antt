@@ -1,5 +1,5 @@
 use Rattle.std.proofs.Common.{◌<◌, ◌^◌, ◌++◌, ◌∙◌, decimal, ap, string_bytes, arith}
-use Rattle.zarrs_chunk_keys.proofs.NumeralLemmas.{IsNumeral-decimal}
+use Rattle.zarrs_chunk_keys.specs.lemmas.HaveKeys.{IsNumeral-decimal}
 use Rattle.zarrs_chunk_keys.proofs.numerals.append_numeral.Goals as goal
 
 pub returns-clause-appended : goal.returns-clause-appended

@@ -1,7 +1,8 @@
 use Rattle.std.proofs.Common.{◌<◌, ◌^◌, ◌∷◌, ◌++◌, decimal, get_or, length, sym, subst, arith}
 use Rattle.std.proofs.lemmas.List.{take_more}
 use Rattle.zarrs_chunk_keys.specs.Numeral.{IsNumerals}
-use Rattle.zarrs_chunk_keys.proofs.NumeralLemmas.{IsNumeral-decimal, IsNumerals-push, pushed}
+use Rattle.zarrs_chunk_keys.specs.lemmas.HaveKeys.{IsNumeral-decimal}
+use Rattle.zarrs_chunk_keys.proofs.NumeralLemmas.{IsNumerals-push, pushed}
 use Rattle.zarrs_chunk_keys.proofs.numerals.write_numerals.Goals as goal
 
 pub loop-number-preserved : goal.loop-number-preserved

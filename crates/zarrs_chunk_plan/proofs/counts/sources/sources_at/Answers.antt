@@ -1,17 +1,13 @@
 use Rattle.std.proofs.Common.{◌≡◌, ◌+◌, arith}
 use Rattle.zarrs_chunk_axes.specs.Along.{IsRange}
-use Rattle.zarrs_chunk_plan.specs.seen.Sources.{IsSide}
-use Rattle.zarrs_chunk_plan.proofs.counts.OneDimension.{one_met, two}
+use Rattle.zarrs_chunk_plan.proofs.counts.OneDimension.{one_met, sided}
 use Rattle.zarrs_chunk_plan.proofs.counts.sources.sources_at.Goals as goal
 
 pub returns : goal.returns
 returns g c =
     let side = c.args.side.now in
     let chunk = side.chunk + c.args.steps in
-    let both =
-    two (IsSide side) _ _ side.source_dimension side.target_dimension (g.met.G.ChunkGridTraits.chained side.source.now)
-    (g.met.H.ChunkGridTraits.chained side.target.now) c.requires.side
-    in
+    let both = sided g.met.G.ChunkGridTraits.chained g.met.H.ChunkGridTraits.chained side c.requires.side in
     let is = both.is in
     let numbered : c.saturating_add-chunk.result ≡ chunk = omega (arith, c.saturating_add-chunk.ensures, is.chunks_fit, c.requires.steps) in
     let range = both.in_target (λ t. IsRange t chunk (c.in_ok-start.start, c.in_ok-start.edge))

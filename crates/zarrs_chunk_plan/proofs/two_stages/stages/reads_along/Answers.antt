@@ -1,18 +1,15 @@
 use Rattle.std.specs.Int.NonZero.{non_zero_u64_get}
 use Rattle.std.specs.List.{sum}
 use Rattle.std.proofs.Common.{◌≡◌, ◌<◌, arith}
-use Rattle.zarrs_chunk_plan.specs.seen.Ends.{AreOfOneSize}
 use Rattle.zarrs_chunk_plan.specs.seen.Sources.{AreRanges, met_by_range}
-use Rattle.zarrs_chunk_plan.proofs.counts.OneDimension.{two}
-use Rattle.zarrs_chunk_plan.proofs.two_stages.StageReads.{from_ranges, into_ranges, is_read, only_dimension}
+use Rattle.zarrs_chunk_plan.proofs.two_stages.StageReads.{ended, from_ranges, into_ranges, is_read, only_dimension}
 use Rattle.zarrs_chunk_plan.proofs.two_stages.stages.reads_along.Goals as goal
 
 pub sources_along-requires : goal.sources_along-requires
 sources_along-requires g c =
     let ends = c.args.ends.now in
     let some : 0 < ends.chunks = omega (arith, c.if-ends-eq0.false) in
-    let both = two (AreOfOneSize ends.size ends.chunks) _ _ ends.dimension ends.dimension (g.met.G.ChunkGridTraits.chained ends.source.now)
-    (g.met.H.ChunkGridTraits.chained ends.target.now) (c.requires some) in
+    let both = ended g.met.G.ChunkGridTraits.chained g.met.H.ChunkGridTraits.chained ends (c.requires some) in
     let edge = non_zero_u64_get c.args.edge in
     let (d, is, equal) = only_dimension _ ends.size edge (c.in_ok-between.ensures {u = tt}) in
     rw (c.grid_shape.ensures, is)
@@ -23,8 +20,7 @@ pub sources_along-requires-2 : goal.sources_along-requires-2
 sources_along-requires-2 g c =
     let ends = c.args.ends.now in
     let some : 0 < ends.chunks = omega (arith, c.if-ends-eq0.false) in
-    let both = two (AreOfOneSize ends.size ends.chunks) _ _ ends.dimension ends.dimension (g.met.G.ChunkGridTraits.chained ends.source.now)
-    (g.met.H.ChunkGridTraits.chained ends.target.now) (c.requires some) in
+    let both = ended g.met.G.ChunkGridTraits.chained g.met.H.ChunkGridTraits.chained ends (c.requires some) in
     let edge = non_zero_u64_get c.args.edge in
     let (d, is, equal) = only_dimension _ ends.size edge (c.in_ok-between.ensures {u = tt}) in
     rw is
@@ -34,12 +30,11 @@ sources_along-requires-2 g c =
 pub returns : goal.returns
 returns g c = λ some.
     let ends = c.args.ends.now in
-    let both = two (AreOfOneSize ends.size ends.chunks) _ _ ends.dimension ends.dimension (g.met.G.ChunkGridTraits.chained ends.source.now)
-    (g.met.H.ChunkGridTraits.chained ends.target.now) (c.requires some) in
+    let both = ended g.met.G.ChunkGridTraits.chained g.met.H.ChunkGridTraits.chained ends (c.requires some) in
     let edge = non_zero_u64_get c.args.edge in
     let (d, is, equal) = only_dimension _ ends.size edge (c.in_ok-between.ensures {u = tt}) in
     let first = both.in_source (λ s. c.in_ok-first.first ≡ sum (met_by_range s d 0 0 ends.size 0 d.grid_size))
-    (rw (c.grid_shape.ensures, is) at (c.in_ok-first.ensures {u = tt}).sum) in
+    (rw (c.grid_shape.ensures, is) at (c.in_ok-first.ensures {u = tt})).0 in
     let second = both.in_target (λ t. c.in_ok-second.second ≡ sum (met_by_range d t 0 0 ends.size 0 ends.chunks)) (rw is at (c.in_ok-second.ensures {u = tt}).sum)
     in
     both.back _ (is_read both.s both.t d ends.size ends.chunks edge c.in_ok-first.first c.in_ok-second.second both.is.source_size equal first second)

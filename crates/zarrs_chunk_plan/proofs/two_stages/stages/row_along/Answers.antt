@@ -1,10 +1,9 @@
 use Rattle.std.proofs.Common.{◌∙◌, ◌<◌, ◌++◌, ◌∷◌, [], ap₂, arith, refl, sym}
 use Rattle.std.proofs.lemmas.List.{map-append, take_all, take_more}
 use Rattle.zarrs_chunk_plan.specs.declared.two_stages.fewest.Edge.{Edge}
-use Rattle.zarrs_chunk_plan.specs.seen.Ends.{AreOfOneSize}
 use Rattle.zarrs_chunk_plan.specs.seen.Stages.{IsRow, edge_of}
 use Rattle.std.proofs.ByRecursion.{All-get_or, All-push}
-use Rattle.zarrs_chunk_plan.proofs.counts.OneDimension.{two}
+use Rattle.zarrs_chunk_plan.proofs.two_stages.StageReads.{ended}
 use Rattle.zarrs_chunk_plan.proofs.two_stages.stages.row_along.Goals as goal
 
 pub loop-edge-init : goal.loop-edge-init
@@ -13,8 +12,7 @@ loop-edge-init g c =
     rw (c.in_ok-row.ensures {u = tt}).items (
       refl,
       λ some.
-          let both = two (AreOfOneSize ends.size ends.chunks) _ _ ends.dimension ends.dimension (g.met.G.ChunkGridTraits.chained ends.source.now)
-          (g.met.H.ChunkGridTraits.chained ends.target.now) (c.requires.ends some) in
+          let both = ended g.met.G.ChunkGridTraits.chained g.met.H.ChunkGridTraits.chained ends (c.requires.ends some) in
           both.back (λ s t. IsRow s t ends.chunks []) tt,
     )
 
@@ -33,8 +31,7 @@ loop-edge-preserved g c =
           ∙ ap₂ (λ xs x. xs ++ x ∷ []) c.loop-edge.invariant.0 c.non_zero-edge.ensures ∙ sym more,
       λ some.
           let ends = c.args.ends.now in
-          let both = two (AreOfOneSize ends.size ends.chunks) _ _ ends.dimension ends.dimension (g.met.G.ChunkGridTraits.chained ends.source.now)
-          (g.met.H.ChunkGridTraits.chained ends.target.now) (c.requires.ends some) in
+          let both = ended g.met.G.ChunkGridTraits.chained g.met.H.ChunkGridTraits.chained ends (c.requires.ends some) in
           both.back (λ s t. IsRow s t ends.chunks (c.loop-edge.row.items ++ e ∷ []))
           (All-push _ c.loop-edge.row.items e (both.at _ (c.loop-edge.invariant.1 some)) (both.at _ ((c.in_ok-first.ensures {u = tt}) some))),
     )
