@@ -6,7 +6,7 @@ use Rattle.std.proofs.lemmas.Option.{same_Some}
 use Rattle.std.proofs.Math.Arith.{lt_of_le-ne}
 use Rattle.std.proofs.Math.Nat.{add-mul, div-lt_iff_lt-mul, mod-lt, mul-le-mul_right, mul_assoc}
 use Rattle.std.proofs.Math.Seq.{drop-cons}
-use Rattle.std.proofs.lemmas.Nat.{div-add-mod', le-div, row_fits}
+use Rattle.std.proofs.lemmas.Nat.{div-add-mod', row_fits}
 use Rattle.std.specs.List.{AllPairs}
 use Rattle.std.proofs.lemmas.List.{get_or_default}
 use Rattle.std.proofs.lemmas.List.Elements.{Contains-get_or}
@@ -135,9 +135,12 @@ module _ (item : ℕ) (edges start shape : List ℕ) (form : Strided) (whole : B
         let (c, goes, here) = row.goes f (to / form.length) (to % form.length) less long in
         let (one, bytes) = rows_alike item _ _ _ _ goes.of_element (omega (arith, high)) (sym goes.in_box ∙ sum) in
         let same = place_once start shape goes.index index goes.within within one in
-        let places = ap (λ x. place edges x * item) same in
-        (get_or xs (to / form.length) 0, Contains-get_or xs (to / form.length) 0 less, omega (arith, goes.in_chunk, places, bytes, here, at),
-        omega (arith, goes.in_chunk, places, bytes, here, at, long)),
+        let places = ap (λ x. place edges x * item) same in (
+          get_or xs (to / form.length) 0,
+          Contains-get_or xs (to / form.length) 0 less,
+          omega (arith, goes.in_chunk, places, bytes, here, at),
+          omega (arith, goes.in_chunk, places, bytes, here, at, long),
+        ),
   ) where
     xs : List ℕ
     xs = begins f form.counts form.strides
@@ -159,7 +162,7 @@ module _ (item edge s n : ℕ) (edges start shape : List ℕ) where
       let in_box = add-mul (i * product shape) (place_within start shape goes.index) item
       ∙ ap (λ m. m + place_within start shape goes.index * item) (mul_assoc i (product shape) item) in
       record {
-        index = s + i ∷ goes.index;
+        index = (s + i) ∷ goes.index;
         within = (omega arith, omega arith, goes.within);
         byte = goes.byte;
         of_element = goes.of_element;
@@ -317,7 +320,8 @@ module _ (item : ℕ) (any_item : 0 < item) where
               apart = all.apart ranges.first;
               in_turn = λ number byte less of_range.
                   let (b, goes, at) = all.goes ranges.first number byte less of_range in
-                  subst (λ from. GoesTo item C _ _ _ from (number * ranges.length + byte)) (omega arith) goes;
+                  subst (λ from. GoesTo item C (in_order order edges) (in_order order start) (in_order order shape) from (number * ranges.length + byte)) (omega arith)
+                  goes;
             });
           },
           λ (n, among, past). let (low, high, _) = all.lie ranges.first n among in omega arith,

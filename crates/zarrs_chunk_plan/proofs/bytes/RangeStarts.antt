@@ -1,10 +1,10 @@
 -- Where byte ranges begin, dimension by dimension.
-use Rattle.std.proofs.Common.{◌≡◌, ◌∙◌, ℕ, zero, suc, ◌+◌, ◌*◌, ◌<◌, ◌≤◌, List, [], ◌∷◌, ◌++◌, Contains, drop, get_or, length, length-append, map}
+use Rattle.std.proofs.Common.{◌≡◌, ◌∙◌, ℕ, zero, suc, ◌+◌, ◌-◌, ◌*◌, ◌<◌, ◌≤◌, List, [], ◌∷◌, ◌++◌, Contains, drop, get_or, length, length-append, map}
 use Rattle.std.proofs.Common.{ap, ap₂, append-nil, append_assoc, arith, refl, subst, sym, ⊎_elim}
 use Rattle.std.proofs.Math.Nat.{suc-mul}
 use Rattle.std.proofs.Math.Path.{fun_ext}
 use Rattle.std.proofs.Math.Seq.{drop-cons}
-use Rattle.std.proofs.lemmas.List.{length-map, map-id}
+use Rattle.std.proofs.lemmas.List.{get_or-append-add, get_or-map, get_or_append_left, length-map, map-id}
 use Rattle.std.proofs.lemmas.Simd.{map-map}
 use Rattle.zarrs_chunk_plan.specs.Bytes.{begins, repeated}
 use Rattle.zarrs_chunk_plan.specs.Counts.{product}
@@ -103,9 +103,14 @@ module _ (stride : ℕ) (numbers : List ℕ) where
       (λ (le : length before ≤ number).
       let j = number - length before in
       let within : j < length numbers = omega (arith, repeated_length (suc count), less, suc-mul count (length numbers)) in
-      let split : number ≡ length before + j = omega arith in
-      (count, j, omega arith, within, omega arith,
-      same ∙ ap (λ k. get_or (before ++ last) k 0) split ∙ get_or-append-add before last j 0 ∙ get_or-map (λ n. n + count * stride) numbers j 0 0 within))
+      let split : number ≡ length before + j = omega arith in (
+        count,
+        j,
+        omega arith,
+        within,
+        omega arith,
+        same ∙ ap (λ k. get_or (before ++ last) k 0) split ∙ get_or-append-add before last j 0 ∙ get_or-map (λ n. n + count * stride) numbers j 0 0 within,
+      ))
       (cases_lt number (length before))
 
 -- ---- dimension by dimension

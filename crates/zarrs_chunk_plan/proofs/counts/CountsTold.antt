@@ -3,7 +3,7 @@ use Rattle.std.proofs.Common.{◌≡◌, ℕ, suc, ◌+◌, ◌-◌, ◌*◌, �
 use Rattle.std.proofs.Math.Nat.{div-mul_cancel, pos_of_dvd_of_pos}
 use Rattle.std.proofs.lemmas.Bool.{cases_lt}
 use Rattle.std.specs.List.{sum}
-use Rattle.zarrs_chunk_plan.specs.seen.RegularCounts.{Divides, all_meeting, meeting}
+use Rattle.zarrs_chunk_plan.specs.seen.RegularCounts.{Divides, all_meeting}
 use Rattle.zarrs_chunk_plan.proofs.counts.Divisors.{agree}
 use Rattle.zarrs_chunk_plan.proofs.counts.RegularCounts.{IsCeiling, all_met, greatest_met, keeps, met_at_most, rises}
 

@@ -61,10 +61,10 @@ two P source target j k chains also is =
     }
 
 -- those of a side
-pub sided : {G H : Type 0} {sources : G → List Dimension} {targets : H → List Dimension} → ((g : G) → AllByRecursion IsChain (sources g))
+pub sided : {G H : Type 0} (sources : G → List Dimension) (targets : H → List Dimension) → ((g : G) → AllByRecursion IsChain (sources g))
     → ((h : H) → AllByRecursion IsChain (targets h)) → (side : Side G H) → OfSide sources targets side (IsSide side)
     → Two (IsSide side) (sources side.source.now) (targets side.target.now) side.source_dimension side.target_dimension
-sided chained also side = two (IsSide side) _ _ side.source_dimension side.target_dimension (chained side.source.now) (also side.target.now)
+sided sources targets chained also side = two (IsSide side) _ _ side.source_dimension side.target_dimension (chained side.source.now) (also side.target.now)
 
 -- ---- what a chunk of the target takes of a range
 

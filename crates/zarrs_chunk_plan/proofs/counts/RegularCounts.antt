@@ -1,9 +1,9 @@
 -- Counting the chunks of one regular grid that meet those of another.
-use Rattle.std.proofs.Common.{◌≡◌, ◌∙◌, ◌↔◌, ℕ, zero, suc, ◌+◌, ◌-◌, ◌*◌, ◌/◌, ◌%◌, ◌<◌, ◌≤◌, ◌++◌, List, [], ◌∷◌, ap, arith, fold, length, max, nat_cmp, refl, rules, subst, sym, tests, ⊎_elim}
+use Rattle.std.proofs.Common.{◌≡◌, ◌∙◌, ◌↔◌, ℕ, zero, suc, ◌+◌, ◌-◌, ◌*◌, ◌/◌, ◌%◌, ◌<◌, ◌≤◌, ◌++◌, List, [], ◌∷◌, ap, arith, fold, length, max, nat_cmp, rules, subst, sym, tests, ⊎_elim}
 use Rattle.std.specs.Ordering.{ord_max}
 use Rattle.std.specs.List.{AllByRecursion, sum}
 use Rattle.zarrs_chunk_plan.specs.seen.RegularCounts.{all_meeting, meeting}
-use Rattle.std.proofs.Math.Nat.{div-eq_of_lt-le, mod-lt, mod-add-div', mul-le-mul_right}
+use Rattle.std.proofs.Math.Nat.{div-eq_of_lt-le, mod-lt, mod-add-div', mul-le-mul_right, mul-suc}
 use Rattle.std.proofs.lemmas.Bool.{cases_lt}
 use Rattle.std.proofs.lemmas.List.FromFn.{length-map-range_with_len}
 use Rattle.std.proofs.lemmas.List.Sums.{sum_by-cons}
@@ -172,7 +172,7 @@ record Greatest (n many total greatest : ℕ) : Type 0 where
 
 greatest_is : (n x : ℕ) (xs : List ℕ) → AllByRecursion (IsEither n) (x ∷ xs)
     → Greatest n (suc (length xs)) (sum (x ∷ xs)) (fold max 0 (x ∷ xs))
-greatest_is n x [] each = record { least = omega (arith, each.0); either = each.0; ceiling = (omega arith, omega arith) }
+greatest_is n x [] each = record { least = omega (arith, each.0); either = (omega (arith, each.0), omega (arith, each.0)); ceiling = (omega arith, omega arith) }
 greatest_is n x (y ∷ ys) each =
     let others = greatest_is n y ys each.1 in
     let g = fold max 0 (y ∷ ys) in
@@ -182,18 +182,19 @@ greatest_is n x (y ∷ ys) each =
     ⊎_elim
     (λ (less : g < x).
     let most : x * many ≡ g * many + many = ap (λ m. m * many) (let next : x ≡ g + 1 = omega (arith, each.0, others.either, less) in next) ∙ omega arith in
+    let low : g * many ≡ n * many = ap (λ m. m * many) (let same : g ≡ n = omega (arith, each.0, others.either, less) in same) in
     rw (total, greatest, let is : max x g ≡ x = omega (arith, less) in is)
     (record {
       least = omega (arith, each.0, others.least);
       either = each.0;
-      ceiling = (omega (arith, others.ceiling, most), omega (arith, others.least, others.either, each.0, less, most));
+      ceiling = (omega (arith, others.ceiling, most, mul-suc x many), omega (arith, others.least, low, most, mul-suc x many));
     }))
     (λ (le : x ≤ g).
     rw (total, greatest, let is : max x g ≡ g = omega (arith, le) in is)
     (record {
       least = omega (arith, each.0, others.least);
       either = others.either;
-      ceiling = (omega (arith, others.ceiling, le), omega (arith, others.ceiling, others.either, each.0));
+      ceiling = (omega (arith, others.ceiling, le, mul-suc g many), omega (arith, others.ceiling, others.either, each.0, mul-suc g many));
     }))
     (cases_lt g x)
 

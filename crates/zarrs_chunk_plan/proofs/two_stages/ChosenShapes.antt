@@ -1,8 +1,9 @@
 -- A choice that takes the fewest reads is the shape of an array between by which two stages do.
-use Rattle.std.proofs.Common.{◌≡◌, ◌↔◌, ◌∙◌, ℕ, ◌+◌, ◌-◌, ◌<◌, ◌≤◌, List, [], ◌∷◌, ◌++◌, Contains, Some, length, map, max, min}
-use Rattle.std.proofs.Common.{ap, ap₂, arith, mul-pos, refl, replicate, reverse, subst, sym, ⊎_elim}
+use Rattle.std.proofs.Common.{◌≡◌, ◌↔◌, ◌∙◌, ℕ, ◌+◌, ◌-◌, ◌<◌, ◌≤◌, ◌^◌, List, [], ◌∷◌, ◌++◌, Contains, Global, IfSome, MatchOption, None, Option, Some, Vec, length, map, max, min}
+use Rattle.std.proofs.Common.{ap, ap₂, arith, mul-pos, refl, replicate, option_map, reverse, subst, sym, ⊎_elim}
 use Rattle.std.proofs.lemmas.List.{length-map, length-replicate, map-append, reverse-append, reverse-reverse}
 use Rattle.std.proofs.lemmas.List.Elements.{All-replicate, recursion_from_All}
+use Rattle.std.proofs.lemmas.Option.{same_Some}
 use Rattle.std.proofs.lemmas.Slice.Zip.{AllZip-long}
 use Rattle.std.specs.Int.NonZero.{non_zero_u64_get}
 use Rattle.std.specs.List.{AllByRecursion, AllZip}
@@ -17,9 +18,10 @@ use Rattle.zarrs_chunks.proofs.ChunksInBoxes.{made_of, source_of}
 use Rattle.zarrs_chunk_plan.specs.Counts.{product}
 use Rattle.zarrs_chunk_parts.specs.Plan.{Meets}
 use Rattle.zarrs_chunk_plan.specs.Rechunking.{AreCopiesInto, Group, IsRechunking, all_chunks_box, array_box, copies_of}
-use Rattle.zarrs_chunk_plan.specs.Stages.{AnyKey, AreStages, FindsShape, Fits, IsChosen, IsLargest, IsTried, all_tried}
+use Rattle.zarrs_chunk_plan.specs.Stages.{AnyKey, AreStages, FindsShape, Fits, IsChosen, IsLargest, IsTried, all_tried, shapes_tried}
+use Rattle.zarrs_chunk_plan.specs.declared.two_stages.fewest.Chosen.{Chosen}
 use Rattle.zarrs_chunk_plan.specs.declared.two_stages.fewest.Edge.{Edge}
-use Rattle.zarrs_chunk_plan.specs.seen.Stages.{AllAscend, AreRows, Ascend, IsChoice, IsFewest, edge_of, held, reads_of}
+use Rattle.zarrs_chunk_plan.specs.seen.Stages.{AllAscend, AreRows, Ascend, FindsFewest, IsChoice, IsFewest, edge_of, held, reads_of}
 use Rattle.zarrs_chunk_plan.proofs.two_stages.EdgesTried.{only_ones, tried_long}
 use Rattle.zarrs_chunk_plan.proofs.two_stages.EqualChunks.{one_box, sizes_are}
 use Rattle.zarrs_chunk_plan.proofs.Plans.{empty_or_some, not_empty_if_inside}
@@ -110,7 +112,7 @@ edges_positive : (choice : List Edge) → AllByRecursion (λ e. 0 < e) (map edge
 edges_positive [] = tt
 edges_positive (e ∷ choice) = (let edge = e.edge in edge.ok, edges_positive choice)
 
-pub map_reversed : (edges : List NonZeroU64) → map non_zero_u64_get (reverse edges) ≡ reverse (map non_zero_u64_get edges)
+map_reversed : (edges : List NonZeroU64) → map non_zero_u64_get (reverse edges) ≡ reverse (map non_zero_u64_get edges)
 map_reversed [] = refl
 map_reversed (e ∷ edges) =
     ap (map non_zero_u64_get) (reverse-append (e ∷ []) edges) ∙ map-append non_zero_u64_get (reverse edges) (e ∷ [])
@@ -118,15 +120,17 @@ map_reversed (e ∷ edges) =
     ∙ sym (reverse-append (non_zero_u64_get e ∷ []) (map non_zero_u64_get edges))
 
 -- what is found has as many dimensions as the array
-pub shape_long : (source target : List Dimension) (most : ℕ) (shape : List ℕ) → array_sizes source ≡ array_sizes target
-    → FindsShape source target most (Some shape) → length shape ≡ length source
-shape_long source target most shape one_array found =
+pub shape_long : (source target : List Dimension) (most : ℕ) (shape : Option (Vec NonZeroU64 Global)) → array_sizes source ≡ array_sizes target
+    → FindsShape source target most (option_map (λ v. map non_zero_u64_get v.items) shape) → IfSome shape (λ v. length v.items ≡ length source)
+shape_long source target most None one_array found = tt
+shape_long source target most (Some shape) one_array found =
     let sizes_long = length-map source (λ (d : Dimension). d.array_size) in
     let one_long = largest_long source found.largest found.is_largest in
     let two_long = largest_long target found.other found.is_other in
     let also_long = length_of source target one_array in
     let long = tried_long (array_sizes source) found.largest found.other (omega (arith, sizes_long, one_long)) (omega (arith, sizes_long, two_long, also_long)) in
-    AllZip-long Contains (all_tried (array_sizes source) found.largest found.other) shape found.finds.fits.tried ∙ long ∙ sizes_long
+    sym (length-map shape.items non_zero_u64_get)
+    ∙ AllZip-long Contains (all_tried (array_sizes source) found.largest found.other) (map non_zero_u64_get shape.items) found.finds.fits.tried ∙ long ∙ sizes_long
 
 -- no list comes before itself
 not_itself : (one other : List ℕ) → one ≡ other → ¬ IsBefore one other
@@ -153,7 +157,9 @@ rows_ascend (row ∷ rows) up = (up.0, rows_ascend rows up.1)
 
 module _ (source target : List Dimension) (chains : AllByRecursion IsChain source) (target_chains : AllByRecursion IsChain target)
     (one_array : array_sizes source ≡ array_sizes target) (is_array : IsBox (array_box target)) (most : ℕ) (fits : most ≤ greatest)
-    (largest other : List ℕ) (is_largest : IsLargest source largest) (is_other : IsLargest target other) (rows : List (List Edge)) (are : map (map edge_of) rows ≡ all_tried (array_sizes source) largest other)
+    (largest other : List ℕ) (is_largest : IsLargest source largest) (is_other : IsLargest target other)
+    (few : shapes_tried (all_tried (array_sizes source) largest other) ≤ 2 ^ 20)
+    (rows : List (List Edge)) (are : map (map edge_of) rows ≡ all_tried (array_sizes source) largest other)
     (reads : (¬ IsEmptyBox (array_box target)) → (chunks : Box) × IsBox chunks × (chunks.start ≡ replicate (length target) 0)
     × ((chunk : List ℕ) → IsInside chunks chunk ↔ Meets target (array_box target) chunk) × AreRows source target chunks.shape rows) where
   abbrev room : ℕ
@@ -199,11 +205,11 @@ module _ (source target : List Dimension) (chains : AllByRecursion IsChain sourc
       only_ones (array_sizes source) (length source) one many (rw (of_source, of_target) at first.tried)
       ∙ sym (only_ones (array_sizes source) (length source) two many (rw (of_source, of_target) at second.tried))
 
-  pub none_fits : ((choice : List Edge) → IsChoice rows choice → room < held choice) → (shape : List ℕ)
+  none_fits : ((choice : List Edge) → IsChoice rows choice → room < held choice) → (shape : List ℕ)
       → ¬ Fits (array_sizes source) most largest other shape
   none_fits none shape it = let (choice, chosen, same, less) = choice_fits shape it in let more = none choice chosen in absurd (omega arith)
 
-  pub is_chosen : (edges : List ℕ) (many : ℕ) → IsFewest rows room 1 1 edges many → IsChosen source target most largest other (reverse edges)
+  is_chosen : (edges : List ℕ) (many : ℕ) → IsFewest rows room 1 1 edges many → IsChosen source target most largest other (reverse edges)
   is_chosen edges many found =
       let same : map edge_of found.choice ≡ reverse edges = sym (ap reverse found.are_edges ∙ reverse-reverse (map edge_of found.choice)) in
       record {
@@ -231,3 +237,19 @@ module _ (source target : List Dimension) (chains : AllByRecursion IsChain sourc
             λ before. none (subst (λ s. IsBefore s (map edge_of found.choice)) (sym also) (subst (IsBefore another) (sym same) before)))
             (empty_or_some (array_box target).shape);
       }
+
+  -- what is found is the shape that is chosen
+  pub finds : (found : Option Chosen) (shape : Option (Vec NonZeroU64 Global)) → FindsFewest rows room 1 1 found
+      → option_map (λ v. v.items) shape ≡ option_map (λ chosen. reverse chosen.edges.items) found
+      → FindsShape source target most (option_map (λ v. map non_zero_u64_get v.items) shape)
+  finds found shape best same = record { largest = largest; is_largest = is_largest; other = other; is_other = is_other; few = few; finds = told_shape found shape best same }
+    where
+      told_shape : (found : Option Chosen) (shape : Option (Vec NonZeroU64 Global)) → FindsFewest rows room 1 1 found
+          → option_map (λ v. v.items) shape ≡ option_map (λ chosen. reverse chosen.edges.items) found
+          → MatchOption (option_map (λ v. map non_zero_u64_get v.items) shape) ((shape : List ℕ) → ¬ Fits (array_sizes source) most largest other shape)
+          (IsChosen source target most largest other)
+      told_shape None None none same = none_fits none
+      told_shape (Some chosen) (Some shape) best same =
+          rw (same_Some shape.items (reverse chosen.edges.items) same, map_reversed chosen.edges.items)
+          (is_chosen (map non_zero_u64_get chosen.edges.items) chosen.reads best)
+      told_shape _ _ _ same = cc

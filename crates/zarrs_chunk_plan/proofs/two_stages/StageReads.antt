@@ -140,10 +140,10 @@ ends_at (_ ∷ _) [] used k same fit fit_used uses within = cc
 ends_at (_ ∷ _) (_ ∷ _) [] k same fit fit_used uses within = absurd uses
 
 -- so what the stages are between are two dimensions
-pub ended : {G H : Type 0} {sources : G → List Dimension} {targets : H → List Dimension} → ((g : G) → AllByRecursion IsChain (sources g))
-    → ((h : H) → AllByRecursion IsChain (targets h)) → (ends : Ends G H) → OfEnds sources targets ends (AreOfOneSize ends.size ends.chunks)
-    → Two (AreOfOneSize ends.size ends.chunks) (sources ends.source.now) (targets ends.target.now) ends.dimension ends.dimension
-ended chained also ends = two (AreOfOneSize ends.size ends.chunks) _ _ ends.dimension ends.dimension (chained ends.source.now) (also ends.target.now)
+pub ended : {G H : Type 0} (sources : G → List Dimension) (targets : H → List Dimension) → ((g : G) → AllByRecursion IsChain (sources g))
+    → ((h : H) → AllByRecursion IsChain (targets h)) → (e : Ends G H) → OfEnds sources targets e (AreOfOneSize e.size e.chunks)
+    → Two (AreOfOneSize e.size e.chunks) (sources e.source.now) (targets e.target.now) e.dimension e.dimension
+ended sources targets chained also e = two (AreOfOneSize e.size e.chunks) _ _ e.dimension e.dimension (chained e.source.now) (also e.target.now)
 
 -- rows that are told along each dimension
 pub rows_are : (source target : List Dimension) (used : List ℕ) (rows : List (List Edge)) → length source ≡ length target → length used ≡ length target

@@ -154,7 +154,7 @@ fn sources_one_by_one<G: ChunkGridTraits, H: ChunkGridTraits>(
     ensures { IfOk result (λ along. OfSide G.dimensions H.dimensions side.now
         (λ s t. AreSumAndMost (met_by_side side.now s t) along)) }
 {
-    let mut sum = 0;
+    let mut sum = 0u64;
     let mut most = 0;
     for steps in 0..side.chunks {
         let sources = sources_at(alloc, side, steps)?;

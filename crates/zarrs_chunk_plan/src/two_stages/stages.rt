@@ -26,7 +26,7 @@ use crate::boxes_from_zero::whole_array;
 use crate::copy::rechunking::chunks_of_array;
 use crate::counts::few::are_few;
 use crate::counts::sources::{Move, Side, sources_along};
-use crate::two_stages::fewest::{Edge, fewest};
+use crate::two_stages::fewest::{Chosen, Edge, fewest};
 use crate::two_stages::largest::largest_chunk;
 use crate::two_stages::stages_error::StagesError;
 use crate::two_stages::tried::{all_tried, saturating_product};
@@ -124,10 +124,8 @@ pub fn shape_between<G: ChunkGridTraits, H: ChunkGridTraits>(
     }
     let rows = all_rows(alloc, source, target, &tried)?;
     let held = saturating_product(&largest).max(saturating_product(&other));
-    match fewest(alloc, &rows, most.saturating_sub(held), 1, 1)? {
-        Some(chosen) => Ok(Some(reversed(chosen.edges))),
-        None => Ok(None),
-    }
+    let chosen = fewest(alloc, &rows, most.saturating_sub(held), 1, 1)?;
+    Ok(outermost_first(chosen))
 }
 
 /// Whether the chunks of the target that hold elements are few enough to go through, where elements come from the source.
@@ -153,12 +151,14 @@ fn are_few_between<G: ChunkGridTraits, H: ChunkGridTraits>(
     Ok(are_few(&copied, &chunks))
 }
 
-/// The numbers in the opposite order.
-fn reversed(mut edges: ChunkShape) -> ChunkShape
-    ensures { result.items ≡ reverse edges.items }
+/// The edges that are chosen, which are those of the innermost dimension first, in the order of the dimensions.
+fn outermost_first(chosen: Option<Chosen>) -> Option<ChunkShape>
+    ensures { option_map (λ shape. shape.items) result
+        ≡ option_map (λ chosen. reverse chosen.edges.items) chosen }
 {
+    let mut edges = chosen?.edges;
     edges.reverse();
-    edges
+    Some(edges)
 }
 
 /// How many shapes are tried, as far as a number of 64 bits counts them.

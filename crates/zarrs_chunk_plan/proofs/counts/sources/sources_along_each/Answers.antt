@@ -3,7 +3,7 @@ use Rattle.std.proofs.lemmas.List.{map-append, take_all, take_more}
 use Rattle.std.specs.List.{sum}
 use Rattle.zarrs_chunk_base.specs.ArraySubset.{IsEmptyBox}
 use Rattle.zarrs_chunk_plan.specs.Counts.{product}
-use Rattle.zarrs_chunk_plan.specs.seen.Sources.{counters, met_in}
+use Rattle.zarrs_chunk_plan.specs.seen.Sources.{AreSumAndMost, counters, met_in}
 use Rattle.zarrs_chunk_plan.proofs.counts.BoxCounts.{product_of_none}
 use Rattle.zarrs_chunk_plan.proofs.counts.MetCovers.{as_many_counters, as_many_starts, moved_long, ranges_along, row_along}
 use Rattle.zarrs_chunk_plan.proofs.counts.Products.{greatest_of_products, met_by_all, of_none, sum_of_products}
@@ -59,12 +59,12 @@ loop-dimension-preserved g c =
     let k = c.loop-dimension.dimension in
     let some = map_more sum met k (omega (arith, less)) in
     let greatest = map_more (fold max 0) met k (omega (arith, less)) in
-    let sums =
-    rw (c.start.ensures.value, c.start-in-loop-dimension.ensures.value, c.shape.ensures.value, c.start-in-loop-dimension-2.ensures.value, c.shape-shape.ensures.value)
-    at (c.in_ok-sum.ensures {u = tt})
+    let (sum_is, most_is) = row_along chains taking (λ row. AreSumAndMost row (c.in_ok-sum.sum, c.in_ok-sum.greatest)) k
+    (rw (c.start.ensures.value, c.start-in-loop-dimension.ensures.value, c.shape.ensures.value, c.start-in-loop-dimension-2.ensures.value, c.shape-shape.ensures.value)
+    at (c.in_ok-sum.ensures {u = tt}))
     in (
-      c.in_ok-push.ensures.items ∙ ap₂ (λ xs x. xs ++ x ∷ []) in_all (row_along chains taking (λ row. c.in_ok-sum.sum ≡ sum row) k sums.sum) ∙ sym some,
-      c.in_ok-push-2.ensures.items ∙ ap₂ (λ xs x. xs ++ x ∷ []) most (row_along chains taking (λ row. c.in_ok-sum.greatest ≡ fold max 0 row) k sums.most) ∙ sym greatest,
+      c.in_ok-push.ensures.items ∙ ap₂ (λ xs x. xs ++ x ∷ []) in_all sum_is ∙ sym some,
+      c.in_ok-push-2.ensures.items ∙ ap₂ (λ xs x. xs ++ x ∷ []) most most_is ∙ sym greatest,
     )
 
 pub returns-then-is_empty : goal.returns-then-is_empty

@@ -7,7 +7,7 @@ pub returns : goal.returns
 returns g c =
     let side = c.args.side.now in
     let chunk = side.chunk + c.args.steps in
-    let both = sided g.met.G.ChunkGridTraits.chained g.met.H.ChunkGridTraits.chained side c.requires.side in
+    let both = sided _ _ g.met.G.ChunkGridTraits.chained g.met.H.ChunkGridTraits.chained side c.requires.side in
     let is = both.is in
     let numbered : c.saturating_add-chunk.result ≡ chunk = omega (arith, c.saturating_add-chunk.ensures, is.chunks_fit, c.requires.steps) in
     let range = both.in_target (λ t. IsRange t chunk (c.in_ok-start.start, c.in_ok-start.edge))

@@ -7,13 +7,13 @@ use Rattle.zarrs_chunk_plan.proofs.counts.sources.sources_one_by_one.Goals as go
 
 pub loop-steps-init : goal.loop-steps-init
 loop-steps-init g c =
-    let both = sided g.met.G.ChunkGridTraits.chained g.met.H.ChunkGridTraits.chained c.args.side.now c.requires in
+    let both = sided _ _ g.met.G.ChunkGridTraits.chained g.met.H.ChunkGridTraits.chained c.args.side.now c.requires in
     both.back _ (refl, refl)
 
 pub loop-steps-preserved : goal.loop-steps-preserved
 loop-steps-preserved g c =
     let side = c.args.side.now in
-    let both = sided g.met.G.ChunkGridTraits.chained g.met.H.ChunkGridTraits.chained side c.requires in
+    let both = sided _ _ g.met.G.ChunkGridTraits.chained g.met.H.ChunkGridTraits.chained side c.requires in
     let is = both.is in
     let (sum, most) = both.at _ c.loop-steps.invariant in
     let here = both.at _ (c.in_ok-sources.ensures {u = tt}) in
@@ -29,7 +29,7 @@ loop-steps-preserved g c =
 pub returns : goal.returns
 returns g c =
     let side = c.args.side.now in
-    let both = sided g.met.G.ChunkGridTraits.chained g.met.H.ChunkGridTraits.chained side c.requires in
+    let both = sided _ _ g.met.G.ChunkGridTraits.chained g.met.H.ChunkGridTraits.chained side c.requires in
     let ended : c.loop-steps.steps ≡ side.chunks = omega (arith, c.loop-steps-test.false, c.loop-steps.auto.steps-end) in
     both.back _
     (subst (λ n. AreSumAndMost (met_by_range both.s both.t side.first side.at side.size side.chunk n) (c.loop-steps.sum, c.loop-steps.most)) ended

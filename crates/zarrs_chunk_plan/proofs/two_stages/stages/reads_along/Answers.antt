@@ -1,7 +1,6 @@
 use Rattle.std.specs.Int.NonZero.{non_zero_u64_get}
-use Rattle.std.specs.List.{sum}
-use Rattle.std.proofs.Common.{◌≡◌, ◌<◌, arith}
-use Rattle.zarrs_chunk_plan.specs.seen.Sources.{AreRanges, met_by_range}
+use Rattle.std.proofs.Common.{◌<◌, arith}
+use Rattle.zarrs_chunk_plan.specs.seen.Sources.{AreRanges, AreSumAndMost, met_by_range}
 use Rattle.zarrs_chunk_plan.proofs.two_stages.StageReads.{ended, from_ranges, into_ranges, is_read, only_dimension}
 use Rattle.zarrs_chunk_plan.proofs.two_stages.stages.reads_along.Goals as goal
 
@@ -9,7 +8,7 @@ pub sources_along-requires : goal.sources_along-requires
 sources_along-requires g c =
     let ends = c.args.ends.now in
     let some : 0 < ends.chunks = omega (arith, c.if-ends-eq0.false) in
-    let both = ended g.met.G.ChunkGridTraits.chained g.met.H.ChunkGridTraits.chained ends (c.requires some) in
+    let both = ended _ _ g.met.G.ChunkGridTraits.chained g.met.H.ChunkGridTraits.chained ends (c.requires some) in
     let edge = non_zero_u64_get c.args.edge in
     let (d, is, equal) = only_dimension _ ends.size edge (c.in_ok-between.ensures {u = tt}) in
     rw (c.grid_shape.ensures, is)
@@ -20,7 +19,7 @@ pub sources_along-requires-2 : goal.sources_along-requires-2
 sources_along-requires-2 g c =
     let ends = c.args.ends.now in
     let some : 0 < ends.chunks = omega (arith, c.if-ends-eq0.false) in
-    let both = ended g.met.G.ChunkGridTraits.chained g.met.H.ChunkGridTraits.chained ends (c.requires some) in
+    let both = ended _ _ g.met.G.ChunkGridTraits.chained g.met.H.ChunkGridTraits.chained ends (c.requires some) in
     let edge = non_zero_u64_get c.args.edge in
     let (d, is, equal) = only_dimension _ ends.size edge (c.in_ok-between.ensures {u = tt}) in
     rw is
@@ -30,11 +29,11 @@ sources_along-requires-2 g c =
 pub returns : goal.returns
 returns g c = λ some.
     let ends = c.args.ends.now in
-    let both = ended g.met.G.ChunkGridTraits.chained g.met.H.ChunkGridTraits.chained ends (c.requires some) in
+    let both = ended _ _ g.met.G.ChunkGridTraits.chained g.met.H.ChunkGridTraits.chained ends (c.requires some) in
     let edge = non_zero_u64_get c.args.edge in
     let (d, is, equal) = only_dimension _ ends.size edge (c.in_ok-between.ensures {u = tt}) in
-    let first = both.in_source (λ s. c.in_ok-first.first ≡ sum (met_by_range s d 0 0 ends.size 0 d.grid_size))
-    (rw (c.grid_shape.ensures, is) at (c.in_ok-first.ensures {u = tt})).0 in
-    let second = both.in_target (λ t. c.in_ok-second.second ≡ sum (met_by_range d t 0 0 ends.size 0 ends.chunks)) (rw is at (c.in_ok-second.ensures {u = tt}).sum)
-    in
+    let (first, _) = both.in_source (λ s. AreSumAndMost (met_by_range s d 0 0 ends.size 0 d.grid_size) (c.in_ok-first.first, c.in_ok-first.field-0-1))
+    (rw (c.grid_shape.ensures, is) at (c.in_ok-first.ensures {u = tt})) in
+    let (second, _) = both.in_target (λ t. AreSumAndMost (met_by_range d t 0 0 ends.size 0 ends.chunks) (c.in_ok-second.second, c.in_ok-second.field-0-1))
+    (rw is at (c.in_ok-second.ensures {u = tt})) in
     both.back _ (is_read both.s both.t d ends.size ends.chunks edge c.in_ok-first.first c.in_ok-second.second both.is.source_size equal first second)

@@ -12,7 +12,7 @@ loop-edge-init g c =
     rw (c.in_ok-row.ensures {u = tt}).items (
       refl,
       λ some.
-          let both = ended g.met.G.ChunkGridTraits.chained g.met.H.ChunkGridTraits.chained ends (c.requires.ends some) in
+          let both = ended _ _ g.met.G.ChunkGridTraits.chained g.met.H.ChunkGridTraits.chained ends (c.requires.ends some) in
           both.back (λ s t. IsRow s t ends.chunks []) tt,
     )
 
@@ -31,7 +31,7 @@ loop-edge-preserved g c =
           ∙ ap₂ (λ xs x. xs ++ x ∷ []) c.loop-edge.invariant.0 c.non_zero-edge.ensures ∙ sym more,
       λ some.
           let ends = c.args.ends.now in
-          let both = ended g.met.G.ChunkGridTraits.chained g.met.H.ChunkGridTraits.chained ends (c.requires.ends some) in
+          let both = ended _ _ g.met.G.ChunkGridTraits.chained g.met.H.ChunkGridTraits.chained ends (c.requires.ends some) in
           both.back (λ s t. IsRow s t ends.chunks (c.loop-edge.row.items ++ e ∷ []))
           (All-push _ c.loop-edge.row.items e (both.at _ (c.loop-edge.invariant.1 some)) (both.at _ ((c.in_ok-first.ensures {u = tt}) some))),
     )

@@ -1,10 +1,8 @@
-use Rattle.std.proofs.Common.{Global, Vec, ℕ, ◌∙◌, ◌-◌, ap, ap₂, arith, length, map, max, subst, sym}
-use Rattle.std.specs.Int.NonZero.{non_zero_u64_get}
+use Rattle.std.proofs.Common.{Global, Vec, ℕ, ◌∙◌, ◌-◌, ap, ap₂, arith, length, max, sym}
 use Rattle.std.proofs.lemmas.List.{length-map}
 use Rattle.zarrs_chunk_base.specs.Dimension.{Dimension, array_sizes}
-use Rattle.zarrs_chunk_plan.specs.Stages.{IsChosen}
 use Rattle.zarrs_chunk_plan.specs.seen.Stages.{rows_of}
-use Rattle.zarrs_chunk_plan.proofs.two_stages.ChosenShapes.{is_chosen, map_reversed, shape_long, largest_long, largest_positive, none_fits, rows_ascend}
+use Rattle.zarrs_chunk_plan.proofs.two_stages.ChosenShapes.{finds, shape_long, largest_long, largest_positive, rows_ascend}
 use Rattle.zarrs_chunk_plan.proofs.two_stages.EdgesTried.{all_ascend, all_positive, tried_long}
 use Rattle.zarrs_chunk_plan.proofs.two_stages.StageReads.{length_of}
 use Rattle.zarrs_chunk_plan.proofs.two_stages.stages.shape_between.Goals as goal
@@ -62,61 +60,17 @@ fewest-requires g c =
     in
     rw c.deref-7.ensures.value (rows_ascend (rows_of c.in_ok-rows.rows.items) (rw (rows.edges, tried) up))
 
-pub returns-in-Some-clause-found : goal.returns-in-Some-clause-found
-returns-in-Some-clause-found g c =
-    let source = g.G.ChunkGridTraits.dimensions c.args.source.now in
-    let target = g.H.ChunkGridTraits.dimensions c.args.target.now in
-    let largest = c.in_ok-largest.largest.items in
-    let other = c.in_ok-largest.other.items in
-    let both = c.in_ok-largest.ensures {u = tt} in
-    let tried = rw (c.array_shape.ensures, c.deref.ensures.value, c.deref-2.ensures.value) at c.in_ok-tried.ensures in
-    let rows = rw c.deref-4.ensures.value at c.in_ok-rows.ensures in
-    let are = rows.edges ∙ tried in
-    let few = rw (c.deref-3.ensures.value, tried) at c.shapes_of.ensures in
-    let room = c.saturating_sub.ensures ∙ ap (λ n. c.args.most - n) (c.max-held.ensures ∙ ap₂ max c.saturating_product.ensures c.saturating_product-2.ensures) in
-    let found = rw (c.deref-7.ensures.value, room, c.deref-5.ensures.value, c.deref-6.ensures.value) at c.in_ok-chosen.ensures in
-    let best = rw c.in-Some.is at found in
-    record {
-      largest = largest;
-      is_largest = both.largest;
-      other = other;
-      is_other = both.other;
-      few = omega (arith, few, c.if-shapes_of-gt-MOST_SHAPES.false);
-      finds =
-          subst (IsChosen source target c.args.most largest other)
-          (sym (ap (map non_zero_u64_get) c.reversed.ensures ∙ map_reversed c.in-Some.chosen.edges.items))
-          (is_chosen _ _ (g.met.G.ChunkGridTraits.chained c.args.source.now) (g.met.H.ChunkGridTraits.chained c.args.target.now) both.one_array
-          rows.is_box _ (omega (arith, c.ranges.most.fits)) _ _ both.largest both.other _ are rows.reads _ _ best);
-    }
-
-pub returns-in-Some-clause-long : goal.returns-in-Some-clause-long
-returns-in-Some-clause-long g c =
-    let source = g.G.ChunkGridTraits.dimensions c.args.source.now in
-    let target = g.H.ChunkGridTraits.dimensions c.args.target.now in
-    let both = c.in_ok-largest.ensures {u = tt} in
-    sym (length-map c.reversed.result.items non_zero_u64_get)
-    ∙ shape_long source target c.args.most (map non_zero_u64_get c.reversed.result.items) both.one_array (returns-in-Some-clause-found g c)
-
 pub returns-clause-found : goal.returns-clause-found
 returns-clause-found g c =
-    let source = g.G.ChunkGridTraits.dimensions c.args.source.now in
-    let target = g.H.ChunkGridTraits.dimensions c.args.target.now in
-    let largest = c.in_ok-largest.largest.items in
-    let other = c.in_ok-largest.other.items in
     let both = c.in_ok-largest.ensures {u = tt} in
     let tried = rw (c.array_shape.ensures, c.deref.ensures.value, c.deref-2.ensures.value) at c.in_ok-tried.ensures in
     let rows = rw c.deref-4.ensures.value at c.in_ok-rows.ensures in
-    let are = rows.edges ∙ tried in
     let few = rw (c.deref-3.ensures.value, tried) at c.shapes_of.ensures in
     let room = c.saturating_sub.ensures ∙ ap (λ n. c.args.most - n) (c.max-held.ensures ∙ ap₂ max c.saturating_product.ensures c.saturating_product-2.ensures) in
-    let found = rw (c.deref-7.ensures.value, room, c.deref-5.ensures.value, c.deref-6.ensures.value) at c.in_ok-chosen.ensures in
-    let none = rw c.in-None.is at found in
-    record {
-      largest = largest;
-      is_largest = both.largest;
-      other = other;
-      is_other = both.other;
-      few = omega (arith, few, c.if-shapes_of-gt-MOST_SHAPES.false);
-      finds = none_fits source target (g.met.G.ChunkGridTraits.chained c.args.source.now) (g.met.H.ChunkGridTraits.chained c.args.target.now) both.one_array rows.is_box
-          c.args.most (omega (arith, c.ranges.most.fits)) largest other both.largest both.other (rows_of c.in_ok-rows.rows.items) are rows.reads none;
-    }
+    finds _ _ (g.met.G.ChunkGridTraits.chained c.args.source.now) (g.met.H.ChunkGridTraits.chained c.args.target.now) both.one_array rows.is_box _
+    (omega (arith, c.ranges.most.fits)) _ _ both.largest both.other (omega (arith, few, c.if-shapes_of-gt-MOST_SHAPES.false)) _ (rows.edges ∙ tried)
+    rows.reads c.in_ok-chosen.chosen c.outermost_first.result
+    (rw (c.deref-7.ensures.value, room, c.deref-5.ensures.value, c.deref-6.ensures.value) at (c.in_ok-chosen.ensures {u = tt})) c.outermost_first.ensures
+
+pub returns-clause-long : goal.returns-clause-long
+returns-clause-long g c = shape_long _ _ _ _ (c.in_ok-largest.ensures {u = tt}).one_array (returns-clause-found g c)
