@@ -1,19 +1,11 @@
 -- The cover of a box, which may be empty.
-use Rattle.std.proofs.Common.{◌≡◌, ◌≢◌, ◌↔◌, ◌⊎◌, ◌∙◌, ℕ, zero, suc, ◌+◌, ◌<◌, ◌≤◌, List, [], ◌∷◌, Some, Ok, length, replicate, ap, ap₂, refl, subst, inl, ⊎_elim}
-use Rattle.std.proofs.Common.{arith, sym}
-use Rattle.std.proofs.lemmas.Bool.{cases_lt}
-use Rattle.std.proofs.lemmas.List.{length-map, length-replicate}
-use Rattle.std.specs.List.{AllByRecursion, AllZip}
-use Rattle.zarrs_chunk_base.specs.ArraySubset.{AreWithin, Box, IsBox, IsEmptyBox, IsInside, zero_box}
-use Rattle.zarrs_chunk_base.specs.Dimension.{Dimension, Holds, InBox, IsChain, array_sizes}
+use Rattle.zarrs_chunk_plan.proofs.Common.{◌≡◌, ◌≢◌, ◌↔◌, ◌⊎◌, ◌∙◌, ℕ, zero, suc, ◌+◌, ◌<◌, ◌≤◌, List, [], ◌∷◌, Some, Ok, length, replicate, ap, ap₂}
+use Rattle.zarrs_chunk_plan.proofs.Common.{refl, subst, inl, ⊎_elim, arith, sym, cases_lt, length-map, length-replicate, AllByRecursion, AllZip}
+use Rattle.zarrs_chunk_plan.proofs.Common.{AreWithin, Box, IsBox, IsEmptyBox, IsInside, zero_box, Dimension, Holds, InBox, IsChain, array_sizes}
+use Rattle.zarrs_chunk_plan.proofs.Common.{AreBelow, earlier_has, cover_meets, Meets, array_box, UsesFirst}
 use Rattle.zarrs_chunk_base.proofs.InEach.{length_numbers}
 use Rattle.zarrs_chunks.specs.Subsets.{AnswersCover, AnswersEmptyCover, LookedBox}
-use Rattle.zarrs_chunk_axes.specs.InBounds.{AreBelow}
-use Rattle.zarrs_chunks.proofs.Chains.{apart, earlier_has}
-use Rattle.zarrs_chunks.proofs.Meeting.{cover_meets}
-use Rattle.zarrs_chunk_parts.specs.Plan.{Meets}
-use Rattle.zarrs_chunk_plan.specs.Rechunking.{array_box}
-use Rattle.zarrs_chunk_plan.specs.seen.Used.{UsesFirst}
+use Rattle.zarrs_chunks.proofs.Chains.{apart}
 use Rattle.zarrs_chunk_plan.proofs.HeldBoxes.{hold_meets, meets_hold, some_chunks, uses_first, uses_none}
 use Rattle.zarrs_chunk_plan.proofs.Plans.{empty_or_some, not_empty_if_inside}
 

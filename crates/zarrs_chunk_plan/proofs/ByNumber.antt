@@ -1,18 +1,14 @@
 -- The chunks in a box, by their number.
-use Rattle.std.proofs.Common.{◌≡◌, ◌∙◌, ℕ, zero, suc, ◌+◌, ◌*◌, ◌<◌, ◌≤◌, List, [], ◌∷◌, ◌++◌, Option, Some, None, length, map, min, get_or, drop}
-use Rattle.std.proofs.Common.{take, set, refl, ap, sym, ⊎_elim, arith, length-append, ◌/◌, ◌%◌, ◌-◌, ◌^◌, unwrap_or, inl, inr, ◌⊎◌}
-use Rattle.std.proofs.Math.Nat.{div-add-mod, mul-zero}
+use Rattle.zarrs_chunk_plan.proofs.Common.{◌≡◌, ◌∙◌, ℕ, zero, suc, ◌+◌, ◌*◌, ◌<◌, ◌≤◌, List, [], ◌∷◌, ◌++◌, Option, Some, None, length, map, min}
+use Rattle.zarrs_chunk_plan.proofs.Common.{get_or, drop, take, set, refl, ap, sym, ⊎_elim, arith, length-append, ◌/◌, ◌%◌, ◌-◌, ◌^◌, inl, inr, ◌⊎◌}
+use Rattle.zarrs_chunk_plan.proofs.Common.{div-add-mod, mul-zero, length-map, take_more, slice_get_within, cases_lt, slice_get, ends, AllFit}
+use Rattle.zarrs_chunk_plan.proofs.Common.{greatest, row_major, rows, counted, chunks_in, counted_from}
+use Rattle.std.proofs.Common.{unwrap_or}
 use Rattle.std.proofs.Math.Seq.{drop-length}
-use Rattle.std.proofs.lemmas.List.{length-map, length-set, drop-set, drop_more, take_more}
-use Rattle.std.proofs.lemmas.Option.{slice_get-map, slice_get_within}
-use Rattle.std.proofs.lemmas.Bool.{cases_lt, le-leb, lt-leb}
-use Rattle.std.specs.List.{slice_get}
+use Rattle.std.proofs.lemmas.List.{length-set, drop-set, drop_more}
+use Rattle.std.proofs.lemmas.Option.{slice_get-map}
+use Rattle.std.proofs.lemmas.Bool.{le-leb, lt-leb}
 use Rattle.std.specs.Option.{option_map}
-use Rattle.zarrs_chunk_base.specs.ArraySubset.{ends}
-use Rattle.zarrs_chunk_base.specs.Greatest.{AllFit, greatest}
-use Rattle.zarrs_chunk_axes.specs.RowMajor.{row_major, rows}
-use Rattle.zarrs_chunk_plan.specs.Counted.{counted}
-use Rattle.zarrs_chunks.specs.Walks.{chunks_in, counted_from}
 
 module _ {X : Type 0} where
   in_first : (xs ys : List X) (k : ℕ) → k < length xs → slice_get (xs ++ ys) k ≡ slice_get xs k

@@ -1,11 +1,7 @@
 -- What a box and the array have in common is the box clipped, and has a cover where it isn't empty.
-use Rattle.std.proofs.Common.{◌≡◌, ◌↔◌, ◌∙◌, ℕ, zero, suc, List, [], ◌∷◌, ap₂, length, max, refl, replicate, arith}
-use Rattle.std.specs.List.{AllByRecursion}
-use Rattle.zarrs_chunk_base.specs.ArraySubset.{Box, IsBox, IsEmptyBox, IsInside}
-use Rattle.zarrs_chunk_base.specs.Dimension.{Dimension, IsChain}
-use Rattle.zarrs_chunks.specs.Subsets.{IsCover}
+use Rattle.zarrs_chunk_plan.proofs.Common.{◌≡◌, ◌↔◌, ◌∙◌, ℕ, zero, suc, List, [], ◌∷◌, ap₂, length, max, refl, replicate, arith, AllByRecursion, Box}
+use Rattle.zarrs_chunk_plan.proofs.Common.{IsBox, IsEmptyBox, IsInside, Dimension, IsChain, IsCover, array_box}
 use Rattle.zarrs_chunk_plan.specs.Clip.{IsClipped}
-use Rattle.zarrs_chunk_plan.specs.Rechunking.{array_box}
 use Rattle.zarrs_chunk_parts.specs.seen.Shared.{later_starts}
 use Rattle.zarrs_chunk_plan.proofs.Rechunkings.{in_array}
 use Rattle.zarrs_chunk_plan.proofs.SomePlan.{has_cover}

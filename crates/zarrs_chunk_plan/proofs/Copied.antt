@@ -1,20 +1,14 @@
 -- A walk over what a rechunking copies, or over what is copied of a region: that it can go on, and what it gives.
-use Rattle.std.proofs.Common.{◌≡◌, ◌⊎◌, ◌∙◌, ℕ, List, [], ◌∷◌, ◌++◌, Option, Some, None, IfSome, Result, Ok, Err, IfOk, length, map, append_assoc}
-use Rattle.std.proofs.Common.{append-nil, ap, inl, refl, subst, sym}
-use Rattle.std.specs.Iterator.{Drains, Yields}
-use Rattle.std.specs.List.{AllByRecursion, AllZip}
-use Rattle.std.specs.declared.alloc.AllocError.{AllocError}
-use Rattle.zarrs_chunk_base.specs.ArraySubset.{Box, IsBox, IsEmptyBox}
-use Rattle.zarrs_chunk_base.specs.Dimension.{Dimension, array_sizes}
+use Rattle.zarrs_chunk_plan.proofs.Common.{◌≡◌, ◌⊎◌, ◌∙◌, ℕ, List, [], ◌∷◌, ◌++◌, Option, Some, None, IfSome, Result, Ok, Err, IfOk, length, map}
+use Rattle.zarrs_chunk_plan.proofs.Common.{append_assoc, append-nil, ap, inl, refl, subst, sym, Drains, AllByRecursion, AllZip, AllocError, Box}
+use Rattle.zarrs_chunk_plan.proofs.Common.{IsBox, IsEmptyBox, Dimension, array_sizes, chunks_in, Meets, Group, AreMovedInto, CanBeMoved, IsCopy}
+use Rattle.zarrs_chunk_plan.proofs.Common.{moved, shifted, Part}
+use Rattle.std.specs.Iterator.{Yields}
 use Rattle.zarrs_chunk_base.specs.declared.incompatible_dimensionality_error.IncompatibleDimensionalityError.{IncompatibleDimensionalityError}
 use Rattle.zarrs_chunk_base.specs.declared.refusal.Refusal.{Refusal}
-use Rattle.zarrs_chunks.specs.Walks.{chunks_in}
-use Rattle.zarrs_chunk_parts.specs.Plan.{Meets}
-use Rattle.zarrs_chunk_plan.specs.Rechunking.{AreTargets, Group}
-use Rattle.zarrs_chunk_plan.specs.Region.{AreMovedInto, CanBeMoved, IsCopy, moved, shifted}
+use Rattle.zarrs_chunk_plan.specs.Rechunking.{AreTargets}
 use Rattle.zarrs_chunk_plan.specs.declared.copy.chunk_copies.ChunkCopies.{ChunkCopies}
 use Rattle.zarrs_chunk_plan.specs.declared.copy.chunk_copies.Copies.{Copies}
-use Rattle.zarrs_chunk_parts.specs.declared.part.Part.{Part}
 use Rattle.zarrs_chunk_plan.specs.declared.stored_array.StoredArray.{StoredArray}
 use Rattle.zarrs_chunk_plan.specs.declared.read.walk.Parts.{Parts}
 use Rattle.zarrs_chunk_plan.specs.seen.Copies.{AreMovesToCome, CanMove, GivesCopies, HasAllParts, IsAboutCopies, IsPlanned}

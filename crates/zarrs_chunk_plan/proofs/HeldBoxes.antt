@@ -1,17 +1,8 @@
 -- What a chunk holds of the whole array, and which chunks hold some of it.
-use Rattle.std.proofs.Common.{◌≡◌, ◌↔◌, ℕ, zero, suc, ◌<◌, List, [], ◌∷◌, Contains, arith, get_or, length, replicate}
-use Rattle.std.specs.List.{AllByRecursion, AllZip}
-use Rattle.zarrs_chunk_base.specs.ArraySubset.{Box, IsEmptyBox, IsInside}
-use Rattle.zarrs_chunk_base.specs.Dimension.{Dimension, InBox, IsChain, array_sizes}
-use Rattle.zarrs_chunk_axes.specs.Along.{Along}
-use Rattle.zarrs_chunk_axes.specs.InBounds.{AreBelow}
-use Rattle.zarrs_chunks.proofs.Covers.{head_some, tail_some}
-use Rattle.zarrs_chunks.proofs.FittingChunks.{counted_home}
+use Rattle.zarrs_chunk_plan.proofs.Common.{◌≡◌, ◌↔◌, ℕ, zero, suc, ◌<◌, List, [], ◌∷◌, Contains, arith, get_or, length, replicate, AllByRecursion}
+use Rattle.zarrs_chunk_plan.proofs.Common.{AllZip, Box, IsEmptyBox, IsInside, Dimension, InBox, IsChain, array_sizes, Along, AreBelow, head_some}
+use Rattle.zarrs_chunk_plan.proofs.Common.{tail_some, counted_home, IsCommon, Meets, array_box, HasElementOf, HoldsSome, UsesFirst}
 use Rattle.zarrs_chunks.proofs.OneDimension.{zeros_below}
-use Rattle.zarrs_chunk_parts.specs.Plan.{IsCommon, Meets}
-use Rattle.zarrs_chunk_plan.specs.Rechunking.{array_box}
-use Rattle.zarrs_chunk_plan.specs.Resize.{HasElementOf}
-use Rattle.zarrs_chunk_plan.specs.seen.Used.{HoldsSome, UsesFirst}
 use Rattle.zarrs_chunk_plan.proofs.Plans.{not_empty_if_inside}
 use Rattle.zarrs_chunk_plan.proofs.Rechunkings.{in_array}
 

@@ -1,6 +1,7 @@
 pub mod BoxCover
 pub mod ByNumber
 pub mod Clipped
+mod Common
 pub mod Copied
 pub mod HeldBoxes
 pub mod MovedBoxes

@@ -1,13 +1,8 @@
 -- Boxes that lie in an array.
-use Rattle.std.proofs.Common.{◌≡◌, ◌≢◌, ◌↔◌, ℕ, suc, ◌+◌, ◌≤◌, List, [], ◌∷◌, Contains, length, replicate, zip, refl, ap, arith, subst, sym}
-use Rattle.std.proofs.lemmas.List.{length-map}
-use Rattle.std.specs.List.{AllByRecursion}
-use Rattle.zarrs_chunk_base.specs.ArraySubset.{AreWithin, Box, IsBox, IsEmptyBox}
-use Rattle.zarrs_chunk_base.specs.Dimension.{Dimension, array_sizes}
-use Rattle.zarrs_chunk_base.specs.Greatest.{AllFit}
-use Rattle.zarrs_chunk_axes.specs.InBounds.{AreBelow}
-use Rattle.zarrs_chunk_plan.specs.Rechunking.{array_box}
-use Rattle.zarrs_chunk_plan.specs.Region.{CanBeMoved, EndWithin, LiesIn}
+use Rattle.zarrs_chunk_plan.proofs.Common.{◌≡◌, ◌≢◌, ◌↔◌, ℕ, suc, ◌+◌, ◌≤◌, List, [], ◌∷◌, Contains, length, replicate, zip, refl, ap, arith, subst}
+use Rattle.zarrs_chunk_plan.proofs.Common.{sym, length-map, AllByRecursion, AreWithin, Box, IsBox, IsEmptyBox, Dimension, array_sizes, AllFit}
+use Rattle.zarrs_chunk_plan.proofs.Common.{AreBelow, array_box, CanBeMoved, EndWithin}
+use Rattle.zarrs_chunk_plan.specs.Region.{LiesIn}
 
 -- each range ends within the array exactly where all do
 pub all_end_within : (start shape sizes : List ℕ) → length start ≡ length sizes → length shape ≡ length sizes

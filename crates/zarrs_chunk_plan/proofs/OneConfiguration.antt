@@ -1,19 +1,17 @@
 -- Grids that one configuration makes of two array shapes: an index that both arrays have lies in the same chunk of either.
-use Rattle.std.proofs.Common.{◌≡◌, ◌∙◌, ℕ, ◌+◌, ◌*◌, ◌<◌, ◌≤◌, min, List, [], ◌∷◌, map, refl, subst, sym, arith}
-use Rattle.zarrs_chunk_base.specs.Dimension.{Dimension, Holds, InEach}
+use Rattle.zarrs_chunk_plan.proofs.Common.{◌≡◌, ◌∙◌, ℕ, ◌+◌, ◌*◌, ◌<◌, ◌≤◌, min, List, [], ◌∷◌, map, refl, subst, sym, arith, Dimension, Holds}
+use Rattle.zarrs_chunk_plan.proofs.Common.{InEach, length_values, IsEqualEdges, AreResized}
 use Rattle.zarrs_chunk_base.specs.DimensionEdges.{DimensionEdges, equal, listed}
 use Rattle.zarrs_chunk_base.specs.Grid.{Grid}
 use Rattle.zarrs_chunk_base.specs.Kinds.{IsMadeOf}
 use Rattle.zarrs_chunk_base.specs.Metadata.{Extension}
 use Rattle.zarrs_chunk_base.specs.RunLength.{edges_of_lengths}
-use Rattle.zarrs_chunk_base.proofs.InEach.{length_values}
 use Rattle.zarrs_chunk_base.proofs.KindsByName.{AreFound, same_kind}
 use Rattle.zarrs_chunk_axes.specs.Bounded.{IsBounded}
-use Rattle.zarrs_chunk_axes.specs.EqualEdges.{IsEqualEdges}
 use Rattle.zarrs_chunk_axes.specs.EqualOrListed.{IsEqualOrListed}
 use Rattle.zarrs_chunk_axes.specs.Listed.{IsListed}
 use Rattle.zarrs_chunks.specs.GridKinds.{GridKind, IsGrid, grid_kind, grid_kinds, rectangular, rectilinear, regular, regular_bounded}
-use Rattle.zarrs_chunk_plan.specs.Resize.{AreResized, IsResized}
+use Rattle.zarrs_chunk_plan.specs.Resize.{IsResized}
 
 -- ---- along one dimension
 

@@ -1,25 +1,14 @@
 -- The parts of a plan: which elements they have, and that they differ.
-use Rattle.std.proofs.Common.{◌≡◌, ◌≢◌, ◌↔◌, ◌⊎◌, ◌∙◌, ℕ, zero, suc, ◌+◌, ◌<◌, ◌≤◌, List, [], ◌∷◌, Contains, get_or, length, refl, ap, ap₂, subst}
-use Rattle.std.proofs.Common.{sym, inl, inr, ⊎_elim, arith}
-use Rattle.std.proofs.lemmas.Bool.{cases_lt}
-use Rattle.std.proofs.lemmas.Slice.Zip.{AllZip-long}
-use Rattle.std.specs.List.{AllByRecursion, AllPairs, AllZip}
-use Rattle.zarrs_chunk_base.specs.ArraySubset.{AreWithin, Box, IsBox, IsEmptyBox, IsInside, zero_box}
-use Rattle.zarrs_chunk_base.specs.Dimension.{Dimension, Holds, InBox, IsChain, IsOrigin, IsPlace}
-use Rattle.zarrs_chunk_base.specs.Greatest.{AllFit}
-use Rattle.zarrs_chunk_base.proofs.Boxes.{within_lengths}
+use Rattle.zarrs_chunk_plan.proofs.Common.{◌≡◌, ◌≢◌, ◌↔◌, ◌⊎◌, ◌∙◌, ℕ, zero, suc, ◌+◌, ◌<◌, ◌≤◌, List, [], ◌∷◌, Contains, get_or, length, refl, ap}
+use Rattle.zarrs_chunk_plan.proofs.Common.{ap₂, subst, sym, inl, inr, ⊎_elim, arith, cases_lt, AllZip-long, AllByRecursion, AllPairs, AllZip}
+use Rattle.zarrs_chunk_plan.proofs.Common.{AreWithin, Box, IsBox, IsEmptyBox, IsInside, zero_box, Dimension, Holds, InBox, IsChain, IsPlace, AllFit}
+use Rattle.zarrs_chunk_plan.proofs.Common.{within_lengths, length_values, AreBelow, row_major, IsCover, chunks_in, counted_from, same_box}
+use Rattle.zarrs_chunk_plan.proofs.Common.{are_those_inside, chunks_once, inside_fits, length_below, lie_within, offset_of, cover_meets, HasElement}
+use Rattle.zarrs_chunk_plan.proofs.Common.{IsCommon, IsPart, IsPlan, Meets, Part}
+use Rattle.zarrs_chunk_base.specs.Dimension.{IsOrigin}
 use Rattle.zarrs_chunk_base.proofs.FirstMembers.{contained}
-use Rattle.zarrs_chunk_base.proofs.InEach.{length_values}
-use Rattle.zarrs_chunk_axes.specs.InBounds.{AreBelow}
-use Rattle.zarrs_chunk_axes.specs.RowMajor.{row_major}
-use Rattle.zarrs_chunks.specs.Subsets.{IsCover}
-use Rattle.zarrs_chunks.specs.Walks.{chunks_in, counted_from}
-use Rattle.zarrs_chunks.proofs.Chains.{same_box}
-use Rattle.zarrs_chunks.proofs.ChunksInBoxes.{are_those_inside, chunks_once, inside_fits, length_below, lie_within, offset_of}
 use Rattle.zarrs_chunks.proofs.Covers.{none_is_not_empty}
-use Rattle.zarrs_chunks.proofs.Meeting.{cover_holds, cover_meets}
-use Rattle.zarrs_chunk_parts.specs.Plan.{HasElement, IsCommon, IsPart, IsPlan, Meets}
-use Rattle.zarrs_chunk_parts.specs.declared.part.Part.{Part}
+use Rattle.zarrs_chunks.proofs.Meeting.{cover_holds}
 
 -- ---- the chunks of a plan
 

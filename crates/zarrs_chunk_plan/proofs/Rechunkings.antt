@@ -1,20 +1,11 @@
 -- The copies of a rechunking, which are copies of the whole array: which elements they move, and that they differ.
-use Rattle.std.proofs.Common.{◌≡◌, ◌↔◌, ◌∙◌, ℕ, zero, suc, ◌+◌, List, [], ◌∷◌, Contains, length, map, replicate, refl, ap, ap₂, subst, sym, arith}
-use Rattle.std.proofs.lemmas.List.{length-map, length-replicate}
-use Rattle.std.specs.List.{AllByRecursion, AllPairs, AllZip, flat_map}
-use Rattle.zarrs_chunk_base.specs.ArraySubset.{AreWithin, Box, IsBox, IsInside}
-use Rattle.zarrs_chunk_base.specs.Dimension.{Dimension, Holds, InBox, IsChain, array_sizes}
-use Rattle.zarrs_chunk_base.proofs.Boxes.{within_lengths}
-use Rattle.zarrs_chunk_base.proofs.InEach.{length_values}
-use Rattle.zarrs_chunk_axes.specs.InBounds.{AreBelow}
-use Rattle.zarrs_chunks.specs.Walks.{counted_from}
-use Rattle.zarrs_chunks.proofs.Chains.{same_box}
-use Rattle.zarrs_chunks.proofs.ChunksInBoxes.{length_below}
-use Rattle.zarrs_chunks.proofs.FittingChunks.{counted_home}
-use Rattle.zarrs_chunk_parts.specs.Plan.{AreShared, IsCommon, IsPart, IsPlan, Meets}
-use Rattle.zarrs_chunk_plan.specs.Rechunking.{AreCopiesInto, Group, IsRechunking, Moves, ShareOut, all_chunks_box, array_box, copies_of}
-use Rattle.zarrs_chunk_plan.specs.Region.{IsCopy, MovesTo, shifted}
-use Rattle.zarrs_chunk_parts.specs.declared.part.Part.{Part}
+use Rattle.zarrs_chunk_plan.proofs.Common.{◌≡◌, ◌↔◌, ◌∙◌, ℕ, zero, suc, ◌+◌, List, [], ◌∷◌, Contains, length, map, replicate, refl, ap, ap₂, subst}
+use Rattle.zarrs_chunk_plan.proofs.Common.{sym, arith, length-map, length-replicate, AllByRecursion, AllPairs, AllZip, flat_map, AreWithin, Box}
+use Rattle.zarrs_chunk_plan.proofs.Common.{IsBox, IsInside, Dimension, Holds, InBox, IsChain, array_sizes, within_lengths, length_values, AreBelow}
+use Rattle.zarrs_chunk_plan.proofs.Common.{counted_from, same_box, length_below, counted_home, IsCommon, IsPart, IsPlan, Meets, AreCopiesInto, Group}
+use Rattle.zarrs_chunk_plan.proofs.Common.{IsRechunking, all_chunks_box, array_box, copies_of, IsCopy, MovesTo, shifted, Part}
+use Rattle.zarrs_chunk_parts.specs.Plan.{AreShared}
+use Rattle.zarrs_chunk_plan.specs.Rechunking.{Moves, ShareOut}
 use Rattle.zarrs_chunk_plan.proofs.copy.CopyLists.{pairs_follow}
 use Rattle.zarrs_chunk_plan.proofs.copy.Joined.{in_joined, pairs_joined}
 use Rattle.zarrs_chunk_plan.proofs.Plans.{all_long, pair_of, pairs_by, source_of}

@@ -1,8 +1,6 @@
 -- Boxes that hold the same are the same.
-use Rattle.std.proofs.Common.{◌≡◌, ◌↔◌, ◌∙◌, ℕ, ◌+◌, ◌-◌, ◌<◌, ◌≤◌, List, [], ◌∷◌, map, refl, ap, ap₂, sym, ⊎_elim, arith}
-use Rattle.zarrs_chunk_base.specs.ArraySubset.{AreWithin, Box, IsBox, IsEmptyBox, IsInside}
-use Rattle.zarrs_chunk_base.proofs.Boxes.{within_lengths}
-use Rattle.zarrs_chunks.specs.Walks.{chunks_in, counted_from}
+use Rattle.zarrs_chunk_plan.proofs.Common.{◌≡◌, ◌↔◌, ◌∙◌, ℕ, ◌+◌, ◌-◌, ◌<◌, ◌≤◌, List, [], ◌∷◌, map, refl, ap, ap₂, sym, ⊎_elim, arith, AreWithin}
+use Rattle.zarrs_chunk_plan.proofs.Common.{Box, IsBox, IsEmptyBox, IsInside, within_lengths, chunks_in, counted_from}
 use Rattle.zarrs_chunk_plan.proofs.shares.Between.{none_below}
 use Rattle.zarrs_chunk_plan.proofs.Plans.{empty_or_some, not_empty_if_inside}
 use Rattle.zarrs_chunk_plan.proofs.counts.Written.{first_within}

@@ -1,12 +1,12 @@
 -- Shares of a list: together they are the list, and what is one of a list that is tied to another is so of that one.
-use Rattle.std.proofs.Common.{◌≡◌, ◌∙◌, ℕ, zero, suc, ◌+◌, ◌-◌, ◌*◌, ◌<◌, ◌≤◌, List, [], ◌∷◌, ◌++◌, drop, length, take, refl, ap, subst, sym, arith}
-use Rattle.std.proofs.Math.Nat.{div-eq_of_lt, div-le_of_le-mul}
-use Rattle.std.proofs.Math.Seq.{drop-append_seam, drop-nil, take-add, take-append_seam, take-length}
-use Rattle.std.proofs.lemmas.List.{length-drop, length-take, take-append-drop}
+use Rattle.zarrs_chunk_plan.proofs.Common.{◌≡◌, ◌∙◌, ℕ, zero, suc, ◌+◌, ◌-◌, ◌*◌, ◌<◌, ◌≤◌, List, [], ◌∷◌, ◌++◌, drop, length, take, refl, ap, subst}
+use Rattle.zarrs_chunk_plan.proofs.Common.{sym, arith, div-eq_of_lt, drop-nil, take-length, length-drop, AllZip-long, AllByRecursion, AllZip}
+use Rattle.zarrs_chunk_plan.proofs.Common.{flat_map, range_with_len, before_share, between}
+use Rattle.std.proofs.Math.Nat.{div-le_of_le-mul}
+use Rattle.std.proofs.Math.Seq.{drop-append_seam, take-add, take-append_seam}
+use Rattle.std.proofs.lemmas.List.{length-take, take-append-drop}
 use Rattle.std.proofs.lemmas.List.Elements.{All-drop, All-from_recursion, All-take, recursion_from_All}
-use Rattle.std.proofs.lemmas.Slice.Zip.{AllZip-long}
-use Rattle.std.specs.List.{AllByRecursion, AllZip, flat_map, range_with_len}
-use Rattle.zarrs_chunk_plan.specs.Shares.{before_share, between, numbered_share, share_of}
+use Rattle.zarrs_chunk_plan.specs.Shares.{numbered_share, share_of}
 use Rattle.zarrs_chunk_plan.specs.declared.shares.share.Share.{Share}
 use Rattle.zarrs_chunk_plan.proofs.shares.BeforeShares.{all_before, before_next}
 use Rattle.zarrs_chunk_plan.proofs.shares.Ranks.{times_le}

@@ -1,22 +1,12 @@
 -- Where each chunk has a key, each box of elements of the array has a plan: the parts ahead of a walk exist.
-use Rattle.std.proofs.Common.{◌≡◌, ◌∙◌, ℕ, suc, ◌+◌, ◌-◌, ◌<◌, ◌≤◌, List, [], ◌∷◌, ap, ap₂, length, map, refl, sym, arith}
-use Rattle.std.specs.List.{AllByRecursion, AllZip}
-use Rattle.zarrs_chunk_base.specs.ArraySubset.{Box, IsBox, IsEmptyBox, IsInside, ends, lasts}
-use Rattle.zarrs_chunk_base.specs.Dimension.{Dimension, Holds, InBox, IsChain, IsShape, array_sizes}
-use Rattle.zarrs_chunk_base.specs.Greatest.{AllFit, greatest}
+use Rattle.zarrs_chunk_plan.proofs.Common.{◌≡◌, ◌∙◌, ℕ, suc, ◌+◌, ◌-◌, ◌<◌, ◌≤◌, List, [], ◌∷◌, ap, ap₂, length, map, refl, sym, arith}
+use Rattle.zarrs_chunk_plan.proofs.Common.{AllByRecursion, AllZip, Box, IsBox, IsEmptyBox, IsInside, ends, lasts, Dimension, Holds, InBox, IsChain}
+use Rattle.zarrs_chunk_plan.proofs.Common.{IsShape, array_sizes, AllFit, greatest, AreBelow, IsCover, chunks_in, are_those_inside, inside_fits}
+use Rattle.zarrs_chunk_plan.proofs.Common.{counted_home, cover_meets, IsPart, IsPlan, Meets, Part, HasKeys}
 use Rattle.zarrs_chunk_base.proofs.InEach.{by_dimension}
-use Rattle.zarrs_chunk_axes.specs.InBounds.{AreBelow}
-use Rattle.zarrs_chunks.specs.Subsets.{IsCover}
-use Rattle.zarrs_chunks.specs.Walks.{chunks_in}
 use Rattle.zarrs_chunks.proofs.Boxes.{has_origin}
-use Rattle.zarrs_chunks.proofs.ChunksInBoxes.{are_those_inside, inside_fits}
 use Rattle.zarrs_chunks.proofs.Covers.{chunks_small, firsts_before_lasts, in_order, is_cover, lasts_small}
-use Rattle.zarrs_chunks.proofs.FittingChunks.{counted_home}
-use Rattle.zarrs_chunks.proofs.Meeting.{cover_meets}
 use Rattle.zarrs_chunks.proofs.UpTo.{ones_fit}
-use Rattle.zarrs_chunk_parts.specs.Plan.{IsPart, IsPlan, Meets}
-use Rattle.zarrs_chunk_parts.specs.declared.part.Part.{Part}
-use Rattle.zarrs_chunk_plan.specs.seen.Parts.{HasKeys}
 use Rattle.zarrs_chunk_plan.proofs.Plans.{all_of_each}
 use Rattle.zarrs_chunk_plan.proofs.counts.Written.{first_within, last_within}
 use Rattle.zarrs_chunk_parts.proofs.Shares.{boxes_are, from_chunk, from_start, has_all_of}

@@ -1,16 +1,9 @@
 -- Where each chunk has a key, the copy of a region of the array exists, and a rechunking.
-use Rattle.std.proofs.Common.{◌≡◌, ℕ, List, [], ◌∷◌, Contains, arith}
-use Rattle.std.specs.List.{AllByRecursion, AllZip}
-use Rattle.zarrs_chunk_base.specs.ArraySubset.{AreWithin, Box, IsBox, IsInside, lasts}
-use Rattle.zarrs_chunk_base.specs.Dimension.{Dimension, IsChain, array_sizes}
-use Rattle.zarrs_chunk_axes.specs.InBounds.{AreBelow}
-use Rattle.zarrs_chunks.proofs.ChunksInBoxes.{are_those_inside}
-use Rattle.zarrs_chunks.proofs.Covers.{tail_some}
-use Rattle.zarrs_chunks.specs.Walks.{chunks_in, counted_from}
-use Rattle.zarrs_chunk_parts.specs.Plan.{Meets}
-use Rattle.zarrs_chunk_plan.specs.Rechunking.{AreTargets, Group, IsRechunking, array_box}
-use Rattle.zarrs_chunk_plan.specs.Region.{AreMovedInto, EndWithin, IsCopy, LiesIn, moved, shifted}
-use Rattle.zarrs_chunk_plan.specs.seen.Parts.{HasKeys}
+use Rattle.zarrs_chunk_plan.proofs.Common.{◌≡◌, ℕ, List, [], ◌∷◌, Contains, arith, AllByRecursion, AllZip, AreWithin, Box, IsBox, IsInside, lasts}
+use Rattle.zarrs_chunk_plan.proofs.Common.{Dimension, IsChain, array_sizes, AreBelow, are_those_inside, tail_some, chunks_in, counted_from, Meets}
+use Rattle.zarrs_chunk_plan.proofs.Common.{Group, IsRechunking, array_box, AreMovedInto, EndWithin, IsCopy, moved, shifted, HasKeys}
+use Rattle.zarrs_chunk_plan.specs.Rechunking.{AreTargets}
+use Rattle.zarrs_chunk_plan.specs.Region.{LiesIn}
 use Rattle.zarrs_chunk_plan.proofs.MovedBoxes.{can_stay}
 use Rattle.zarrs_chunk_plan.proofs.Plans.{all_of_each, not_empty, place_below}
 use Rattle.zarrs_chunk_plan.proofs.copy.Regions.{read_is_box}

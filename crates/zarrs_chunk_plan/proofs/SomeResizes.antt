@@ -1,24 +1,15 @@
 -- Where each chunk has a key, each chunk that one of a resize's arrays uses has a change; and the changes that came of a walk, one for each chunk that
 -- came, are at the end all that were to come.
-use Rattle.std.proofs.Common.{◌≡◌, ◌↔◌, ◌⊎◌, ◌∙◌, ℕ, ◌≤◌, List, [], ◌∷◌, ◌++◌, Option, Some, None, Ok, length, replicate, ap, refl, subst, sym}
-use Rattle.std.proofs.Common.{append-nil, map, Bool, Result, ⊎_elim, arith}
-use Rattle.std.specs.declared.alloc.AllocError.{AllocError}
-use Rattle.std.proofs.lemmas.List.{length-map, length-replicate}
-use Rattle.std.specs.Iterator.{Drains}
-use Rattle.std.specs.List.{AllByRecursion, AllZip}
-use Rattle.zarrs_chunk_base.specs.ArraySubset.{IsBox, ends}
-use Rattle.zarrs_chunk_base.specs.Dimension.{Dimension, IsChain, array_sizes}
-use Rattle.zarrs_chunk_base.specs.Greatest.{AllFit, greatest}
-use Rattle.zarrs_chunk_axes.specs.InBounds.{AreBelow}
-use Rattle.zarrs_chunk_plan.specs.Rechunking.{array_box}
-use Rattle.zarrs_chunk_plan.specs.Resize.{AreChanged, IsChange, IsChanged, IsHeld, IsUsed, MayHold}
+use Rattle.zarrs_chunk_plan.proofs.Common.{◌≡◌, ◌↔◌, ◌⊎◌, ◌∙◌, ℕ, ◌≤◌, List, [], ◌∷◌, ◌++◌, Option, Some, None, Ok, length, replicate, ap, refl}
+use Rattle.zarrs_chunk_plan.proofs.Common.{subst, sym, append-nil, map, Bool, Result, ⊎_elim, arith, AllocError, length-map, length-replicate, Drains}
+use Rattle.zarrs_chunk_plan.proofs.Common.{AllByRecursion, AllZip, IsBox, ends, Dimension, IsChain, array_sizes, AllFit, greatest, AreBelow}
+use Rattle.zarrs_chunk_plan.proofs.Common.{array_box, IsChange, IsChanged, IsUsed, Change, changes_to_come, HasKeys}
+use Rattle.zarrs_chunk_plan.specs.Resize.{AreChanged, IsHeld, MayHold}
 use Rattle.zarrs_chunk_plan.specs.declared.resize.chunk_changes.Changes.{Changes}
-use Rattle.zarrs_chunk_plan.specs.declared.resize.plan.Change.{Change}
 use Rattle.zarrs_chunk_plan.specs.declared.resize.plan.Change.TheVariants.{Delete, Keep, New, Rewrite}
 use Rattle.zarrs_chunk_plan.specs.declared.resize.plan.ChunkChange.{ChunkChange}
 use Rattle.zarrs_chunk_plan.specs.declared.resize.plan.Held.{Held}
-use Rattle.zarrs_chunk_plan.specs.seen.Changes.{CanChange, GivesChange, IsAboutResize, changes_to_come}
-use Rattle.zarrs_chunk_plan.specs.seen.Parts.{HasKeys}
+use Rattle.zarrs_chunk_plan.specs.seen.Changes.{CanChange, GivesChange, IsAboutResize}
 use Rattle.zarrs_chunk_plan.proofs.copy.AskedChunks.{below_or_not}
 use Rattle.zarrs_chunk_plan.proofs.HeldBoxes.{held_elements}
 use Rattle.zarrs_chunk_plan.proofs.Plans.{all_of_each}

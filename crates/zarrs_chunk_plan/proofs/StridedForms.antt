@@ -1,22 +1,17 @@
 -- The form of the ranges that are found, and what it means: the bytes of a box, along one more dimension each time.
-use Rattle.std.proofs.Common.{◌≡◌, ◌↔◌, ◌∙◌, ℕ, zero, suc, ◌+◌, ◌-◌, ◌*◌, ◌<◌, ◌≤◌, Bool, true, false, List, [], ◌∷◌, Contains, IfSome, Option, None, Some, nat_le, ap, arith, cond, inl, inr}
-use Rattle.std.proofs.Common.{length, ne_eqb, option_map, refl, subst, sym, ⊎_elim, ◌/◌, ◌%◌, drop, get_or, ◌&&◌, ◌==◌, ap₂, false-eqb}
-use Rattle.std.proofs.lemmas.Bool.{cases_lt, le-leb, leb-true, lt-leb, true≢false, eqb-true}
-use Rattle.std.proofs.lemmas.Option.{same_Some}
+use Rattle.zarrs_chunk_plan.proofs.Common.{◌≡◌, ◌↔◌, ◌∙◌, ℕ, zero, suc, ◌+◌, ◌-◌, ◌*◌, ◌<◌, ◌≤◌, Bool, true, false, List, [], ◌∷◌, Contains, IfSome}
+use Rattle.zarrs_chunk_plan.proofs.Common.{Option, None, Some, ap, arith, inl, inr, length, refl, subst, sym, ⊎_elim, ◌/◌, ◌%◌, drop, get_or, ◌==◌}
+use Rattle.zarrs_chunk_plan.proofs.Common.{ap₂, cases_lt, same_Some, mod-lt, mul-le-mul_right, mul_assoc, drop-cons, row_fits, AllPairs}
+use Rattle.zarrs_chunk_plan.proofs.Common.{Contains-get_or, AreWithin, greatest, head_some, tail_some, begins, in_order, product, EndWithin}
+use Rattle.std.proofs.Common.{nat_le, cond}
+use Rattle.std.proofs.Common.{ne_eqb, option_map, ◌&&◌, false-eqb}
+use Rattle.std.proofs.lemmas.Bool.{le-leb, leb-true, lt-leb, true≢false, eqb-true}
 use Rattle.std.proofs.Math.Arith.{lt_of_le-ne}
-use Rattle.std.proofs.Math.Nat.{add-mul, div-lt_iff_lt-mul, mod-lt, mul-le-mul_right, mul_assoc}
-use Rattle.std.proofs.Math.Seq.{drop-cons}
-use Rattle.std.proofs.lemmas.Nat.{div-add-mod', row_fits}
-use Rattle.std.specs.List.{AllPairs}
+use Rattle.std.proofs.Math.Nat.{add-mul, div-lt_iff_lt-mul}
+use Rattle.std.proofs.lemmas.Nat.{div-add-mod'}
 use Rattle.std.proofs.lemmas.List.{get_or_default}
-use Rattle.std.proofs.lemmas.List.Elements.{Contains-get_or}
-use Rattle.zarrs_chunk_base.specs.ArraySubset.{AreWithin}
-use Rattle.zarrs_chunk_base.specs.Greatest.{greatest}
 use Rattle.zarrs_chunk_base.proofs.FirstMembers.{contained}
-use Rattle.zarrs_chunks.proofs.Covers.{head_some, tail_some}
-use Rattle.zarrs_chunk_plan.specs.Bytes.{FindsRanges, GoesTo, HasByte, HasPast, IsByteIn, begins, in_order, place, place_within}
-use Rattle.zarrs_chunk_plan.specs.Counts.{product}
-use Rattle.zarrs_chunk_plan.specs.Region.{EndWithin}
+use Rattle.zarrs_chunk_plan.specs.Bytes.{FindsRanges, GoesTo, HasByte, HasPast, IsByteIn, place, place_within}
 use Rattle.zarrs_chunk_plan.specs.Strided.{Strided, form_of, has_all, has_zero, lies_in, no_ranges, ranges_of, strided, along}
 use Rattle.zarrs_chunk_plan.specs.seen.Rows.{IsStrided}
 use Rattle.zarrs_chunk_plan.specs.declared.bytes.ranges.ByteRanges.{ByteRanges}

@@ -1,15 +1,8 @@
 -- The parts that came of a walk, one for each chunk that came; at the end they are a plan.
-use Rattle.std.proofs.Common.{◌≡◌, ◌∙◌, ℕ, List, [], ◌∷◌, ◌++◌, Option, Some, None, Result, Ok, map, append_assoc, append-nil, ap, refl, subst, sym}
-use Rattle.std.specs.declared.alloc.AllocError.{AllocError}
+use Rattle.zarrs_chunk_plan.proofs.Common.{◌≡◌, ◌∙◌, ℕ, List, [], ◌∷◌, ◌++◌, Option, Some, None, Result, Ok, map, append_assoc, append-nil, ap, refl}
+use Rattle.zarrs_chunk_plan.proofs.Common.{subst, sym, AllocError, Drains, AllZip, Box, Dimension, IsCover, chunks_in, IsPart, IsPlan, Part}
 use Rattle.std.proofs.lemmas.Slice.Zip.{all_zipped_more}
-use Rattle.std.specs.Iterator.{Drains, Yields}
-use Rattle.std.specs.List.{AllZip}
-use Rattle.zarrs_chunk_base.specs.ArraySubset.{Box}
-use Rattle.zarrs_chunk_base.specs.Dimension.{Dimension}
-use Rattle.zarrs_chunks.specs.Subsets.{IsCover}
-use Rattle.zarrs_chunks.specs.Walks.{chunks_in}
-use Rattle.zarrs_chunk_parts.specs.Plan.{IsPart, IsPlan}
-use Rattle.zarrs_chunk_parts.specs.declared.part.Part.{Part}
+use Rattle.std.specs.Iterator.{Yields}
 use Rattle.zarrs_chunk_plan.specs.declared.read.walk.Parts.{Parts}
 use Rattle.zarrs_chunk_plan.specs.seen.Parts.{ArePartsToCome, GivesPart, IsAbout, MeetSubset, chunks_to_come}
 

@@ -1,18 +1,13 @@
 -- Where byte ranges begin, dimension by dimension.
-use Rattle.std.proofs.Common.{◌≡◌, ◌∙◌, ℕ, zero, suc, ◌+◌, ◌-◌, ◌*◌, ◌<◌, ◌≤◌, List, [], ◌∷◌, ◌++◌, Contains, drop, get_or, length, length-append, map}
-use Rattle.std.proofs.Common.{ap, ap₂, append-nil, append_assoc, arith, refl, subst, sym, ⊎_elim}
+use Rattle.zarrs_chunk_plan.proofs.Common.{◌≡◌, ◌∙◌, ℕ, zero, suc, ◌+◌, ◌-◌, ◌*◌, ◌<◌, ◌≤◌, List, [], ◌∷◌, ◌++◌, Contains, drop, get_or, length}
+use Rattle.zarrs_chunk_plan.proofs.Common.{length-append, map, ap, ap₂, append-nil, append_assoc, arith, refl, subst, sym, ⊎_elim, drop-cons}
+use Rattle.zarrs_chunk_plan.proofs.Common.{length-map, begins, product, made_of, source_of, cases_lt, row_fits, Contains-append_cases}
+use Rattle.zarrs_chunk_plan.proofs.Common.{Contains-append_left, Contains-append_right, AllPairs}
 use Rattle.std.proofs.Math.Nat.{suc-mul}
 use Rattle.std.proofs.Math.Path.{fun_ext}
-use Rattle.std.proofs.Math.Seq.{drop-cons}
-use Rattle.std.proofs.lemmas.List.{get_or-append-add, get_or-map, get_or_append_left, length-map, map-id}
+use Rattle.std.proofs.lemmas.List.{get_or-append-add, get_or-map, get_or_append_left, map-id}
 use Rattle.std.proofs.lemmas.Simd.{map-map}
-use Rattle.zarrs_chunk_plan.specs.Bytes.{begins, repeated}
-use Rattle.zarrs_chunk_plan.specs.Counts.{product}
-use Rattle.zarrs_chunks.proofs.ChunksInBoxes.{made_of, source_of}
-use Rattle.std.proofs.lemmas.Bool.{cases_lt}
-use Rattle.std.proofs.lemmas.Nat.{row_fits}
-use Rattle.std.proofs.lemmas.List.Elements.{Contains-append_cases, Contains-append_left, Contains-append_right}
-use Rattle.std.specs.List.{AllPairs}
+use Rattle.zarrs_chunk_plan.specs.Bytes.{repeated}
 use Rattle.zarrs_chunk_plan.proofs.copy.Joined.{pairs_mapped, pairs_of_both}
 
 -- ---- one dimension

@@ -1,13 +1,10 @@
 -- Lists that are read backwards: the dimensions of a chunk that is stored in column-major order.
-use Rattle.std.proofs.Common.{◌≡◌, ◌∙◌, ℕ, ◌*◌, ◌-◌, List, [], ◌∷◌, ◌++◌, Contains, length, reverse, ap, refl, subst, sym, arith}
+use Rattle.zarrs_chunk_plan.proofs.Common.{◌≡◌, ◌∙◌, ℕ, ◌*◌, ◌-◌, List, [], ◌∷◌, ◌++◌, Contains, length, ap, refl, subst, sym, arith, mul_assoc}
+use Rattle.zarrs_chunk_plan.proofs.Common.{mul_comm, reverse-append, Contains-get_or, AreWithin, in_order, product, EndWithin}
+use Rattle.std.proofs.Common.{reverse}
 use mathlib.Core.List.{reverse_aux}
-use Rattle.std.proofs.Math.Nat.{mul_assoc, mul_comm}
-use Rattle.std.proofs.lemmas.List.{get_or-reverse, length-reverse, reverse-append, reverse-reverse}
-use Rattle.std.proofs.lemmas.List.Elements.{Contains-get_or}
-use Rattle.zarrs_chunk_base.specs.ArraySubset.{AreWithin}
-use Rattle.zarrs_chunk_plan.specs.Bytes.{AreRanges, in_order}
-use Rattle.zarrs_chunk_plan.specs.Counts.{product}
-use Rattle.zarrs_chunk_plan.specs.Region.{EndWithin}
+use Rattle.std.proofs.lemmas.List.{get_or-reverse, length-reverse, reverse-reverse}
+use Rattle.zarrs_chunk_plan.specs.Bytes.{AreRanges}
 use Rattle.zarrs_chunk_plan.specs.declared.bytes.ranges.MemoryOrder.{MemoryOrder}
 use Rattle.zarrs_chunk_plan.specs.declared.bytes.ranges.MemoryOrder.TheVariants.{C, F}
 

@@ -1,8 +1,6 @@
 -- The chunks of which a change is asked for are those that are told.
-use Rattle.std.proofs.Common.{◌↔◌, ◌⊎◌, ℕ, Bool, List, [], ◌∷◌, Contains, inl, inr, arith}
-use Rattle.zarrs_chunk_base.specs.Dimension.{Dimension}
-use Rattle.zarrs_chunk_axes.specs.InBounds.{AreBelow}
-use Rattle.zarrs_chunk_plan.specs.Resize.{AreChanged, IsAsked, IsKept, IsUsed}
+use Rattle.zarrs_chunk_plan.proofs.Common.{◌↔◌, ◌⊎◌, ℕ, Bool, List, [], ◌∷◌, Contains, inl, inr, arith, Dimension, AreBelow, IsKept, IsUsed}
+use Rattle.zarrs_chunk_plan.specs.Resize.{AreChanged, IsAsked}
 use Rattle.zarrs_chunk_plan.specs.seen.Outside.{AreOnce, IsOutside, IsToldBefore}
 
 -- numbers are below sizes, or they aren't

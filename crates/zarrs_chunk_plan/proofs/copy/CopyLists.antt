@@ -1,10 +1,7 @@
 -- The copies of groups, one after another: where each comes from, and that two of them differ by a chunk.
-use Rattle.std.proofs.Common.{◌≡◌, ◌≢◌, ◌⊎◌, ◌∙◌, ℕ, List, Contains, get_or, map, ap, arith, inl, inr, subst, sym}
-use Rattle.std.proofs.lemmas.List.Elements.{Contains-get_or}
-use Rattle.std.specs.List.{AllPairs, AllZip}
+use Rattle.zarrs_chunk_plan.proofs.Common.{◌≡◌, ◌≢◌, ◌⊎◌, ◌∙◌, ℕ, List, Contains, get_or, map, ap, arith, inl, inr, subst, sym, Contains-get_or}
+use Rattle.zarrs_chunk_plan.proofs.Common.{AllPairs, AllZip, Group, copies_of, Part}
 use Rattle.zarrs_chunks.proofs.ChunksInBoxes.{made_of as among_mapped, source_of as is_of}
-use Rattle.zarrs_chunk_plan.specs.Rechunking.{Group, copies_of}
-use Rattle.zarrs_chunk_parts.specs.declared.part.Part.{Part}
 use Rattle.zarrs_chunk_plan.proofs.copy.Joined.{in_joined, in_some, pairs_joined, pairs_mapped}
 use Rattle.zarrs_chunk_plan.proofs.Plans.{pairs_of, source_of}
 

@@ -1,18 +1,11 @@
 -- A rechunking the other way round has the same copies.
-use Rattle.std.proofs.Common.{◌≡◌, ◌↔◌, ◌⊎◌, ◌∙◌, ℕ, List, Contains, ap, IsTrue, subst, sym, arith, ⊎_elim}
-use Rattle.std.specs.List.{AllByRecursion, AllPairs}
-use Rattle.zarrs_chunk_base.specs.ArraySubset.{Box, IsInside}
-use Rattle.zarrs_chunk_base.specs.Dimension.{Dimension, InBox, IsChain, IsOrigin, StartsAt, array_sizes}
-use Rattle.zarrs_chunk_base.proofs.InEach.{length_values, same_values}
-use Rattle.zarrs_chunk_axes.specs.InBounds.{AreBelow}
-use Rattle.zarrs_chunks.specs.Walks.{chunks_in, counted_from}
-use Rattle.zarrs_chunks.proofs.Chains.{same_box}
-use Rattle.zarrs_chunks.proofs.ChunksInBoxes.{are_those_inside}
-use Rattle.zarrs_chunks.proofs.Meeting.{cover_meets}
-use Rattle.zarrs_chunk_parts.specs.Plan.{IsPart, Meets}
-use Rattle.zarrs_chunk_plan.specs.Rechunking.{AreCopiesInto, Group, IsExchanged, IsRechunking, all_chunks_box, array_box, copies_of}
-use Rattle.zarrs_chunk_plan.specs.Region.{IsCopy}
-use Rattle.zarrs_chunk_parts.specs.declared.part.Part.{Part}
+use Rattle.zarrs_chunk_plan.proofs.Common.{◌≡◌, ◌↔◌, ◌⊎◌, ◌∙◌, ℕ, List, Contains, ap, IsTrue, subst, sym, arith, ⊎_elim, AllByRecursion, AllPairs}
+use Rattle.zarrs_chunk_plan.proofs.Common.{Box, IsInside, Dimension, InBox, IsChain, array_sizes, length_values, AreBelow, chunks_in, counted_from}
+use Rattle.zarrs_chunk_plan.proofs.Common.{same_box, are_those_inside, cover_meets, IsPart, Meets, AreCopiesInto, Group, IsRechunking, all_chunks_box}
+use Rattle.zarrs_chunk_plan.proofs.Common.{array_box, copies_of, IsCopy, Part}
+use Rattle.zarrs_chunk_base.specs.Dimension.{IsOrigin, StartsAt}
+use Rattle.zarrs_chunk_base.proofs.InEach.{same_values}
+use Rattle.zarrs_chunk_plan.specs.Rechunking.{IsExchanged}
 use Rattle.zarrs_chunk_plan.proofs.copy.CopyLists.{Differ, copy_in, copy_of, pairs_follow}
 use Rattle.zarrs_chunk_plan.proofs.Plans.{added, all_long, chunk_of, counted_once, length_counted, not_empty, pair_of, part_of}
 use Rattle.zarrs_chunk_plan.proofs.copy.Regions.{differ_all}

@@ -1,9 +1,8 @@
 -- Lists that are made of other lists, one after another: what is in them, and what holds of each two of it.
-use Rattle.std.proofs.Common.{◌↔◌, ◌⊎◌, zero, suc, List, [], ◌∷◌, ◌++◌, Contains, get_or, map, refl, subst, sym, ⊎_elim, arith}
-use Rattle.std.specs.List.{AllPairs, flat_map}
-use Rattle.std.proofs.lemmas.List.Elements.{All-append, Contains-append_cases, Contains-append_left, Contains-append_right, Contains-get_or}
+use Rattle.zarrs_chunk_plan.proofs.Common.{◌↔◌, ◌⊎◌, zero, suc, List, [], ◌∷◌, ◌++◌, Contains, get_or, map, refl, subst, sym, ⊎_elim, arith, AllPairs}
+use Rattle.zarrs_chunk_plan.proofs.Common.{flat_map, Contains-append_cases, Contains-append_left, Contains-append_right, Contains-get_or, source_of}
+use Rattle.std.proofs.lemmas.List.Elements.{All-append}
 use Rattle.std.proofs.lemmas.List.Kept.{AllPairs-cons}
-use Rattle.zarrs_chunks.proofs.ChunksInBoxes.{source_of}
 
 module _ {X : Type 0} where
   pub has_either : (xs ys : List X) (x : X) → Contains (xs ++ ys) x ↔ (Contains xs x ⊎ Contains ys x)

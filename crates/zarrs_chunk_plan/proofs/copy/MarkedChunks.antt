@@ -1,27 +1,20 @@
 -- Bits of numbers, the place of a chunk in a box, and what is known of the chunks that a store has.
-use Rattle.std.proofs.Common.{◌≡◌, ◌≢◌, ◌==◌, ◌↔◌, ◌⊎◌, ◌∙◌, ℕ, zero, suc, ◌+◌, ◌-◌, ◌*◌, ◌^◌, ◌/◌, ◌%◌, ◌<◌, ◌≤◌, Bool, true, false, List}
-use Rattle.std.proofs.Common.{[], ◌∷◌, ◌++◌, Option, Some, None, get_or, length, min, replicate, set, take, MatchOption, IsTrue, refl, ap, subst, sym, inl, inr, ⊎_elim, arith, true≢false}
-use Rattle.std.proofs.lemmas.Bool.{cases_lt, eq-eqb}
+use Rattle.zarrs_chunk_plan.proofs.Common.{◌≡◌, ◌≢◌, ◌==◌, ◌↔◌, ◌⊎◌, ◌∙◌, ℕ, zero, suc, ◌+◌, ◌-◌, ◌*◌, ◌^◌, ◌/◌, ◌%◌, ◌<◌, ◌≤◌, Bool, true, false}
+use Rattle.zarrs_chunk_plan.proofs.Common.{List, [], ◌∷◌, ◌++◌, Option, Some, None, get_or, length, min, replicate, set, take, MatchOption, IsTrue}
+use Rattle.zarrs_chunk_plan.proofs.Common.{refl, ap, subst, sym, inl, inr, ⊎_elim, arith, true≢false, cases_lt, length-replicate, take_more}
+use Rattle.zarrs_chunk_plan.proofs.Common.{get_or_from_slice_get, slice_get_within, bit_at, slice_get, AreWithin, Box, IsBox, IsInside, Dimension}
+use Rattle.zarrs_chunk_plan.proofs.Common.{AllFit, greatest, row_major, chunks_in, are_those_inside, chunks_once, inside_fits, Meets, array_box}
+use Rattle.zarrs_chunk_plan.proofs.Common.{is_stored}
+use Rattle.std.proofs.lemmas.Bool.{eq-eqb}
 use Rattle.std.proofs.lemmas.Bool.Decides.{eqb_tells}
-use Rattle.std.proofs.lemmas.List.{get_or-replicate, get_or-set_other, get_or-set_same, get_or_past, length-replicate, length-take-le, take_more}
+use Rattle.std.proofs.lemmas.List.{get_or-replicate, get_or-set_other, get_or-set_same, get_or_past, length-take-le}
 use Rattle.std.proofs.lemmas.Nat.Bits.{bit_at-zero}
-use Rattle.std.proofs.lemmas.Option.{get_or_from_slice_get, slice_get_within}
-use Rattle.std.specs.Int.{bit_at}
-use Rattle.std.specs.List.{slice_get}
 use Rattle.std.specs.Option.{is_some}
 use Rattle.std.specs.Prelude.{Vec}
 use Rattle.std.specs.declared.alloc.Global.{Global}
-use Rattle.zarrs_chunk_base.specs.ArraySubset.{AreWithin, Box, IsBox, IsInside}
-use Rattle.zarrs_chunk_base.specs.Dimension.{Dimension}
-use Rattle.zarrs_chunk_base.specs.Greatest.{AllFit, greatest}
-use Rattle.zarrs_chunk_axes.specs.RowMajor.{row_major}
-use Rattle.zarrs_chunks.specs.Walks.{chunks_in}
-use Rattle.zarrs_chunks.proofs.ChunksInBoxes.{are_those_inside, chunks_once, inside_fits}
-use Rattle.zarrs_chunk_parts.specs.Plan.{Meets}
-use Rattle.zarrs_chunk_plan.specs.Rechunking.{array_box}
 use Rattle.zarrs_chunk_plan.specs.StoredChunks.{IsListed, IsOfArray}
 use Rattle.zarrs_chunk_plan.specs.declared.copy.stored_chunks.StoredChunks.{StoredChunks}
-use Rattle.zarrs_chunk_plan.specs.seen.StoredChunks.{IsMarked, Knows, is_stored}
+use Rattle.zarrs_chunk_plan.specs.seen.StoredChunks.{IsMarked, Knows}
 use Rattle.zarrs_chunk_plan.proofs.ByNumber.{at_digit, at_most_times, length-behind}
 
 -- ---- a bit of a list of numbers

@@ -1,21 +1,11 @@
 -- The copies of a region into the chunks of a box: from where to where they move which elements, and that they differ.
-use Rattle.std.proofs.Common.{◌≡◌, ◌⊎◌, ◌∙◌, ℕ, suc, List, [], ◌∷◌, Contains, length, refl, ap, inl, inr, subst, sym, ⊎_elim}
-use Rattle.std.proofs.Common.{arith, ◌≢◌, IsTrue}
-use Rattle.std.specs.List.{AllByRecursion, AllPairs}
-use Rattle.zarrs_chunk_base.specs.ArraySubset.{Box, IsBox, IsInside, lasts}
-use Rattle.zarrs_chunk_base.specs.Dimension.{Dimension, InBox, IsChain, array_sizes}
-use Rattle.zarrs_chunk_base.specs.Greatest.{AllFit}
-use Rattle.zarrs_chunk_axes.specs.InBounds.{AreBelow}
-use Rattle.zarrs_chunks.specs.Walks.{chunks_in, counted_from}
+use Rattle.zarrs_chunk_plan.proofs.Common.{◌≡◌, ◌⊎◌, ◌∙◌, ℕ, suc, List, [], ◌∷◌, Contains, length, refl, ap, inl, inr, subst, sym, ⊎_elim, arith, ◌≢◌}
+use Rattle.zarrs_chunk_plan.proofs.Common.{IsTrue, AllByRecursion, AllPairs, Box, IsBox, IsInside, lasts, Dimension, InBox, IsChain, array_sizes}
+use Rattle.zarrs_chunk_plan.proofs.Common.{AllFit, AreBelow, chunks_in, counted_from, same_box, are_those_inside, chunks_once, length_below}
+use Rattle.zarrs_chunk_plan.proofs.Common.{lie_within, offset_of, tail_some, counted_home, HasElement, IsPart, Meets, Group, copies_of, AreMovedInto}
+use Rattle.zarrs_chunk_plan.proofs.Common.{IsCopy, MovesTo, moved, shifted, Part}
 use Rattle.zarrs_chunks.proofs.Boxes.{same_index}
-use Rattle.zarrs_chunks.proofs.Chains.{same_box}
-use Rattle.zarrs_chunks.proofs.ChunksInBoxes.{are_those_inside, chunks_once, length_below, lie_within, offset_of}
-use Rattle.zarrs_chunks.proofs.Covers.{tail_some}
-use Rattle.zarrs_chunks.proofs.FittingChunks.{counted_home}
-use Rattle.zarrs_chunk_parts.specs.Plan.{HasElement, IsPart, Meets}
-use Rattle.zarrs_chunk_plan.specs.Rechunking.{Group, copies_of}
-use Rattle.zarrs_chunk_plan.specs.Region.{AreMovedInto, IsCopy, IsRegionCopy, MovesTo, moved, shifted}
-use Rattle.zarrs_chunk_parts.specs.declared.part.Part.{Part}
+use Rattle.zarrs_chunk_plan.specs.Region.{IsRegionCopy}
 use Rattle.zarrs_chunk_plan.proofs.copy.CopyLists.{Differ, copies_differ, copy_in, copy_of, pairs_follow}
 use Rattle.zarrs_chunk_plan.proofs.MovedBoxes.{within_below}
 use Rattle.zarrs_chunk_plan.proofs.Plans.{added, all_long, chunk_of, counted_once, has_common, has_place, length_counted, not_empty, pair_of, parts_differ, place_below}

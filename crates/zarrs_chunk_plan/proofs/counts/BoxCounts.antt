@@ -1,10 +1,6 @@
 -- How many lists a box has.
-use Rattle.std.proofs.Common.{◌≡◌, ◌↔◌, ◌∙◌, ℕ, zero, suc, ◌*◌, List, [], ◌∷◌, Contains, length, ap, refl, arith}
-use Rattle.zarrs_chunk_base.specs.ArraySubset.{Box, IsBox, IsInside}
-use Rattle.zarrs_chunk_axes.specs.RowMajor.{row_major}
-use Rattle.zarrs_chunks.specs.Walks.{chunks_in}
-use Rattle.zarrs_chunks.proofs.ChunksInBoxes.{are_those_inside, chunks_once}
-use Rattle.zarrs_chunk_plan.specs.Counts.{AreMany, product}
+use Rattle.zarrs_chunk_plan.proofs.Common.{◌≡◌, ◌↔◌, ◌∙◌, ℕ, zero, suc, ◌*◌, List, [], ◌∷◌, Contains, length, ap, refl, arith, Box, IsBox, IsInside}
+use Rattle.zarrs_chunk_plan.proofs.Common.{row_major, chunks_in, are_those_inside, chunks_once, AreMany, product}
 use Rattle.zarrs_chunk_plan.proofs.ByNumber.{as_many, length-shape}
 
 -- as many lists are below a shape as the product of its numbers

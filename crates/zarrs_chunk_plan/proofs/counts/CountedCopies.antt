@@ -1,21 +1,14 @@
 -- The counts of a copy are those of its groups.
-use Rattle.std.proofs.Common.{◌≡◌, ◌↔◌, ◌∙◌, ℕ, List, Contains, ap, arith, length, map, refl, subst, sym, ◌+◌, [], ◌∷◌, fold, length-append, max, ap₂}
-use Rattle.std.specs.List.{AllByRecursion, AllZip, sum}
-use Rattle.zarrs_chunk_base.specs.ArraySubset.{Box, IsBox, IsInside}
-use Rattle.zarrs_chunk_base.specs.Dimension.{Dimension, InBox, IsChain, array_sizes}
-use Rattle.zarrs_chunk_axes.specs.InBounds.{AreBelow}
-use Rattle.zarrs_chunks.specs.Walks.{chunks_in, counted_from}
-use Rattle.zarrs_chunks.proofs.Chains.{same_box}
-use Rattle.zarrs_chunks.proofs.ChunksInBoxes.{are_those_inside, lie_within, offset_of}
-use Rattle.zarrs_chunks.proofs.FittingChunks.{counted_home}
-use Rattle.zarrs_chunks.proofs.Meeting.{cover_meets}
-use Rattle.zarrs_chunk_parts.specs.Plan.{IsPart, Meets}
-use Rattle.zarrs_chunk_parts.specs.declared.part.Part.{Part}
-use Rattle.zarrs_chunk_plan.specs.Counts.{AreCopyCounts, product, AreFew, AreMany}
-use Rattle.zarrs_chunk_plan.specs.Rechunking.{array_box, Group, copies_of}
-use Rattle.zarrs_chunk_plan.specs.Region.{AnyChunk, AreMovedInto, AreTargets, CanBeMoved, Group, IsCopy, MovesTo, copies_of, moved, shifted}
+use Rattle.zarrs_chunk_plan.proofs.Common.{◌≡◌, ◌↔◌, ◌∙◌, ℕ, List, Contains, ap, arith, length, map, refl, subst, sym, ◌+◌, [], ◌∷◌, fold}
+use Rattle.zarrs_chunk_plan.proofs.Common.{length-append, max, ap₂, AllByRecursion, AllZip, sum, Box, IsBox, IsInside, Dimension, InBox, IsChain}
+use Rattle.zarrs_chunk_plan.proofs.Common.{array_sizes, AreBelow, chunks_in, counted_from, same_box, are_those_inside, lie_within, offset_of}
+use Rattle.zarrs_chunk_plan.proofs.Common.{counted_home, cover_meets, IsPart, Meets, Part, product, AreMany, array_box, Group, copies_of, AnyChunk}
+use Rattle.zarrs_chunk_plan.proofs.Common.{AreMovedInto, CanBeMoved, IsCopy, MovesTo, moved, shifted, counters, met_in, met_by, length-map}
+use Rattle.zarrs_chunk_plan.proofs.Common.{sum_by-cons, AllZip-long}
+use Rattle.zarrs_chunk_plan.specs.Counts.{AreCopyCounts, AreFew}
+use Rattle.zarrs_chunk_plan.specs.Region.{AreTargets, Group, copies_of}
 use Rattle.zarrs_chunk_plan.specs.declared.counts.of_plans.Counts.{Counts}
-use Rattle.zarrs_chunk_plan.specs.seen.Sources.{AreTaking, counters, met_in, met_by}
+use Rattle.zarrs_chunk_plan.specs.seen.Sources.{AreTaking}
 use Rattle.zarrs_chunk_plan.specs.seen.TargetCounts.{AreTargetCounts, met_by_each}
 use Rattle.zarrs_chunk_plan.proofs.copy.CopyLists.{copy_of}
 use Rattle.zarrs_chunk_plan.proofs.counts.MetCovers.{as_many_counters, met_of_cover}
@@ -25,10 +18,7 @@ use Rattle.zarrs_chunk_plan.proofs.counts.Products.{met_by_all, sum_of_products}
 use Rattle.zarrs_chunk_plan.proofs.Rechunkings.{same_place}
 use Rattle.zarrs_chunk_plan.proofs.copy.Regions.{is_copy_of, moves_only, moves_region, read_is_box, some_copy}
 use Rattle.zarrs_chunk_plan.proofs.SameBoxes.{chunks_of_same}
-use Rattle.std.proofs.lemmas.List.{length-map}
 use Rattle.std.proofs.lemmas.List.Concat.{flat_map-cons}
-use Rattle.std.proofs.lemmas.List.Sums.{sum_by-cons}
-use Rattle.std.proofs.lemmas.Slice.Zip.{AllZip-long}
 use Rattle.std.specs.Option.{MatchOption}
 use Rattle.zarrs_chunk_plan.proofs.counts.BoxCounts.{in_box_many}
 

@@ -1,19 +1,11 @@
 -- The counts of a read are those of its parts.
-use Rattle.std.proofs.Common.{◌≡◌, ◌≢◌, ◌↔◌, ◌⊎◌, ◌∙◌, ℕ, zero, suc, ◌+◌, ◌*◌, List, [], ◌∷◌, Contains, Global, Some, Vec, length, map, min}
-use Rattle.std.proofs.Common.{refl, ap, subst, sym, ⊎_elim, arith}
-use Rattle.std.proofs.lemmas.Slice.Zip.{AllZip-long}
-use Rattle.std.specs.List.{AllByRecursion}
-use Rattle.zarrs_chunk_base.specs.ArraySubset.{Box, IsBox, IsEmptyBox, IsInside, zero_box}
-use Rattle.zarrs_chunk_base.specs.Dimension.{Dimension, IsChain}
-use Rattle.zarrs_chunks.specs.Subsets.{IsCover}
-use Rattle.zarrs_chunks.specs.Walks.{chunks_in}
-use Rattle.zarrs_chunks.proofs.ChunksInBoxes.{are_those_inside}
+use Rattle.zarrs_chunk_plan.proofs.Common.{◌≡◌, ◌≢◌, ◌↔◌, ◌⊎◌, ◌∙◌, ℕ, zero, suc, ◌+◌, ◌*◌, List, [], ◌∷◌, Contains, Global, Some, Vec, length, map}
+use Rattle.zarrs_chunk_plan.proofs.Common.{min, refl, ap, subst, sym, ⊎_elim, arith, AllZip-long, AllByRecursion, Box, IsBox, IsEmptyBox, IsInside}
+use Rattle.zarrs_chunk_plan.proofs.Common.{zero_box, Dimension, IsChain, IsCover, chunks_in, are_those_inside, cover_meets, AreMany, product}
+use Rattle.zarrs_chunk_plan.proofs.Common.{HasElement, IsPart, IsPlan, Part}
 use Rattle.zarrs_chunks.proofs.Covers.{none_is_not_empty}
-use Rattle.zarrs_chunks.proofs.Meeting.{cover_meets}
-use Rattle.zarrs_chunk_plan.specs.Counts.{AreMany, AreReadCounts, product}
-use Rattle.zarrs_chunk_parts.specs.Plan.{HasElement, IsPart, IsPlan}
+use Rattle.zarrs_chunk_plan.specs.Counts.{AreReadCounts}
 use Rattle.zarrs_chunk_plan.specs.declared.counts.of_plans.Counts.{Counts}
-use Rattle.zarrs_chunk_parts.specs.declared.part.Part.{Part}
 use Rattle.zarrs_chunk_plan.proofs.counts.BoxCounts.{box_many, in_box_many, product_of_none}
 use Rattle.zarrs_chunk_plan.proofs.counts.MetCovers.{zeros_none}
 use Rattle.zarrs_chunk_plan.proofs.Plans.{chunk_of, has_common, part_of, some_part}

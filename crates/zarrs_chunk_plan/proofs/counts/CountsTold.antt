@@ -1,9 +1,7 @@
 -- What is computed of two edges is how many chunks meet.
-use Rattle.std.proofs.Common.{◌≡◌, ℕ, suc, ◌+◌, ◌-◌, ◌*◌, ◌/◌, ◌<◌, ◌≤◌, ap, arith, fold, max, subst, ⊎_elim}
+use Rattle.zarrs_chunk_plan.proofs.Common.{◌≡◌, ℕ, suc, ◌+◌, ◌-◌, ◌*◌, ◌/◌, ◌<◌, ◌≤◌, ap, arith, fold, max, subst, ⊎_elim, cases_lt, sum, Divides}
+use Rattle.zarrs_chunk_plan.proofs.Common.{all_meeting}
 use Rattle.std.proofs.Math.Nat.{div-mul_cancel, pos_of_dvd_of_pos}
-use Rattle.std.proofs.lemmas.Bool.{cases_lt}
-use Rattle.std.specs.List.{sum}
-use Rattle.zarrs_chunk_plan.specs.seen.RegularCounts.{Divides, all_meeting}
 use Rattle.zarrs_chunk_plan.proofs.counts.Divisors.{agree}
 use Rattle.zarrs_chunk_plan.proofs.counts.RegularCounts.{IsCeiling, all_met, greatest_met, keeps, met_at_most, rises}
 

@@ -1,8 +1,7 @@
 -- Numbers that divide others, as Euclid's algorithm goes from one pair to the next.
-use Rattle.std.proofs.Common.{◌≡◌, ◌∙◌, ◌↔◌, ℕ, ◌+◌, ◌*◌, ◌/◌, ◌%◌, ◌<◌, ap, arith, subst, sym}
+use Rattle.zarrs_chunk_plan.proofs.Common.{◌≡◌, ◌∙◌, ◌↔◌, ℕ, ◌+◌, ◌*◌, ◌/◌, ◌%◌, ◌<◌, ap, arith, subst, sym, Divides}
 use Rattle.std.proofs.Math.Nat.{div-mul_cancel, dvd-add_iff_left, dvd-mul_right, dvd-mul_right_of_dvd, dvd_of_mul-dvd-mul_right, mod-add-div, mul-dvd-mul_left, mul-dvd-mul_right}
 use Rattle.std.proofs.lemmas.Nat.Gcd.{dvd_of_mod-eq-zero, dvd_trans, mod-eq-zero_of_dvd}
-use Rattle.zarrs_chunk_plan.specs.seen.RegularCounts.{Divides}
 
 -- what divides two multiples divides that of what is left by a division
 pub divides_rest : (m c x y : ℕ) → Divides m (c * x) → Divides m (c * y) → Divides m (c * (x % y))

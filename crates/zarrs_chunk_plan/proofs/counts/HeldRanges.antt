@@ -1,16 +1,11 @@
 -- The elements of the array that the chunks in a box hold.
-use Rattle.std.proofs.Common.{◌≡◌, ◌∙◌, ◌↔◌, ℕ, zero, suc, ◌+◌, ◌-◌, ◌<◌, ◌≤◌, ◌++◌, List, [], ◌∷◌, Contains, ap, arith, get_or, length, min, refl}
+use Rattle.zarrs_chunk_plan.proofs.Common.{◌≡◌, ◌∙◌, ◌↔◌, ℕ, zero, suc, ◌+◌, ◌-◌, ◌<◌, ◌≤◌, ◌++◌, List, [], ◌∷◌, Contains, ap, arith, get_or, length}
+use Rattle.zarrs_chunk_plan.proofs.Common.{min, refl, AllByRecursion, AreWithin, Box, IsBox, IsEmptyBox, ends, lasts, Dimension, InBox, IsChain}
+use Rattle.zarrs_chunk_plan.proofs.Common.{array_sizes, AllFit, greatest, Along, IsRange, AreBelow, head_some, tail_some, HoldsSome}
 use Rattle.std.proofs.lemmas.List.{length_push}
-use Rattle.std.specs.List.{AllByRecursion}
-use Rattle.zarrs_chunk_base.specs.ArraySubset.{AreWithin, Box, IsBox, IsEmptyBox, ends, lasts}
-use Rattle.zarrs_chunk_base.specs.Dimension.{Dimension, InBox, IsChain, array_sizes}
-use Rattle.zarrs_chunk_base.specs.Greatest.{AllFit, greatest}
-use Rattle.zarrs_chunk_axes.specs.Along.{Along, IsRange}
-use Rattle.zarrs_chunk_axes.specs.InBounds.{AreBelow}
 use Rattle.zarrs_chunks.proofs.Chains.{in_chain}
-use Rattle.zarrs_chunks.proofs.Covers.{head_some, tail_some}
 use Rattle.zarrs_chunks.proofs.Meeting.{lies_between, lies_within}
-use Rattle.zarrs_chunk_plan.specs.seen.Used.{HoldsSome, IsHeldRange}
+use Rattle.zarrs_chunk_plan.specs.seen.Used.{IsHeldRange}
 use Rattle.zarrs_chunk_plan.proofs.two_stages.LargestChunks.{pushed}
 use Rattle.zarrs_chunk_plan.proofs.counts.OneDimension.{one}
 

@@ -1,15 +1,10 @@
 -- How many chunks of the source share elements with a chunk of the target: what is found of a cover is what is computed.
-use Rattle.std.proofs.Common.{◌≡◌, ◌∙◌, ◌↔◌, ℕ, zero, suc, ◌+◌, ◌-◌, ◌<◌, ◌≤◌, List, [], ◌∷◌, Contains, IsTrue, length}
-use Rattle.std.proofs.Common.{refl, ap, ap₂, subst, sym, ⊎_elim, arith}
-use Rattle.std.proofs.lemmas.Bool.{cases_lt, le-ltb, lt-ltb}
-use Rattle.std.specs.List.{AllByRecursion}
-use Rattle.zarrs_chunk_base.specs.ArraySubset.{AreWithin, Box, IsInside, lasts}
-use Rattle.zarrs_chunk_base.specs.Dimension.{Dimension, Holds, InBox, IsChain}
-use Rattle.zarrs_chunks.specs.Walks.{counted_from}
-use Rattle.zarrs_chunks.proofs.Chains.{apart, at_most_start, earlier_has, no_later}
-use Rattle.zarrs_chunks.proofs.Covers.{head_some, tail_some}
-use Rattle.zarrs_chunk_parts.specs.Plan.{Meets}
-use Rattle.zarrs_chunk_plan.specs.seen.Sources.{TakesSome, counters_from, home, home_from, met, met_by, taken, taken_box, taken_from, taken_sizes, taken_starts}
+use Rattle.zarrs_chunk_plan.proofs.Common.{◌≡◌, ◌∙◌, ◌↔◌, ℕ, zero, suc, ◌+◌, ◌-◌, ◌<◌, ◌≤◌, List, [], ◌∷◌, Contains, IsTrue, length, refl, ap, ap₂}
+use Rattle.zarrs_chunk_plan.proofs.Common.{subst, sym, ⊎_elim, arith, cases_lt, le-ltb, lt-ltb, AllByRecursion, AreWithin, Box, IsInside, lasts}
+use Rattle.zarrs_chunk_plan.proofs.Common.{Dimension, Holds, InBox, IsChain, counted_from, earlier_has, no_later, head_some, tail_some, Meets}
+use Rattle.zarrs_chunk_plan.proofs.Common.{TakesSome, counters_from, met, met_by, taken, taken_from}
+use Rattle.zarrs_chunks.proofs.Chains.{apart, at_most_start}
+use Rattle.zarrs_chunk_plan.specs.seen.Sources.{home, home_from, taken_box, taken_sizes, taken_starts}
 
 -- ---- one dimension
 

@@ -1,17 +1,10 @@
 -- The cover of what a chunk of the target takes.
-use Rattle.std.proofs.Common.{◌≡◌, ◌≢◌, ◌↔◌, ◌∙◌, ℕ, zero, suc, ◌<◌, List, [], get_or, length, refl, ap, sym, arith}
-use Rattle.std.proofs.lemmas.List.{length-map}
-use Rattle.std.specs.List.{AllByRecursion}
-use Rattle.zarrs_chunk_base.specs.ArraySubset.{Box, IsBox, IsEmptyBox, IsInside, zero_box}
-use Rattle.zarrs_chunk_base.specs.Dimension.{Dimension, Holds, InBox, IsChain, array_sizes}
-use Rattle.zarrs_chunk_base.proofs.Boxes.{within_lengths}
-use Rattle.zarrs_chunk_base.proofs.InEach.{length_values}
-use Rattle.zarrs_chunk_axes.specs.InBounds.{AreBelow}
-use Rattle.zarrs_chunks.specs.Subsets.{IsCover}
-use Rattle.zarrs_chunks.specs.Walks.{counted_from}
-use Rattle.zarrs_chunk_parts.specs.Plan.{AreShared, Meets}
-use Rattle.zarrs_chunk_plan.specs.Region.{shifted}
-use Rattle.zarrs_chunk_plan.specs.seen.Sources.{AreRanges, AreTaking, counters, met_by, met_by_range, met_in, taken_box, taken_sizes, taken_starts}
+use Rattle.zarrs_chunk_plan.proofs.Common.{◌≡◌, ◌≢◌, ◌↔◌, ◌∙◌, ℕ, zero, suc, ◌<◌, List, [], get_or, length, refl, ap, sym, arith, length-map}
+use Rattle.zarrs_chunk_plan.proofs.Common.{AllByRecursion, Box, IsBox, IsEmptyBox, IsInside, zero_box, Dimension, Holds, InBox, IsChain, array_sizes}
+use Rattle.zarrs_chunk_plan.proofs.Common.{within_lengths, length_values, AreBelow, IsCover, counted_from, Meets, shifted, AreRanges, counters}
+use Rattle.zarrs_chunk_plan.proofs.Common.{met_by, met_by_range, met_in}
+use Rattle.zarrs_chunk_parts.specs.Plan.{AreShared}
+use Rattle.zarrs_chunk_plan.specs.seen.Sources.{AreTaking, taken_box, taken_sizes, taken_starts}
 use Rattle.zarrs_chunk_plan.proofs.BoxCover.{none_below}
 use Rattle.zarrs_chunk_plan.proofs.counts.MetChunks.{cover_sizes, met_along_each, meets_take, shares_met, taken_common}
 use Rattle.zarrs_chunk_plan.proofs.MovedBoxes.{within_long, within_starts}

@@ -1,14 +1,9 @@
 -- One dimension of a list of them, and one of each of two lists: with how many chunks of the source a chunk of the target shares elements along it.
-use Rattle.std.proofs.Common.{◌≡◌, ℕ, zero, suc, ◌+◌, ◌-◌, ◌<◌, ◌≤◌, List, [], ◌∷◌, arith, length, min, slice_index_or, subst, sym}
-use Rattle.std.specs.List.{AllByRecursion}
-use Rattle.zarrs_chunk_base.specs.ArraySubset.{ends}
-use Rattle.zarrs_chunk_base.specs.Dimension.{Dimension, Holds, IsChain, array_sizes}
-use Rattle.zarrs_chunk_base.specs.Greatest.{AllFit}
-use Rattle.zarrs_chunk_axes.specs.Along.{Along, IsRange}
-use Rattle.zarrs_chunks.proofs.Chains.{no_later}
-use Rattle.zarrs_chunk_plan.specs.Region.{EndWithin}
+use Rattle.zarrs_chunk_plan.proofs.Common.{◌≡◌, ℕ, zero, suc, ◌+◌, ◌-◌, ◌<◌, ◌≤◌, List, [], ◌∷◌, arith, length, min, slice_index_or, subst, sym}
+use Rattle.zarrs_chunk_plan.proofs.Common.{AllByRecursion, ends, Dimension, Holds, IsChain, array_sizes, AllFit, Along, IsRange, no_later, EndWithin}
+use Rattle.zarrs_chunk_plan.proofs.Common.{AreRanges, TakesSome, counters_from, met, met_along, met_by_range, met_in, taken, taken_from}
 use Rattle.zarrs_chunk_plan.specs.declared.counts.sources.Side.{Side}
-use Rattle.zarrs_chunk_plan.specs.seen.Sources.{AreRanges, IsSide, OfSide, TakesSome, counters_from, met, met_along, met_by_range, met_in, taken, taken_from}
+use Rattle.zarrs_chunk_plan.specs.seen.Sources.{IsSide, OfSide}
 use Rattle.zarrs_chunk_plan.proofs.counts.MetChunks.{met_at_most, met_is}
 use Rattle.zarrs_chunk_plan.proofs.counts.Written.{RangesTake, take_long}
 

@@ -1,15 +1,7 @@
 -- Products of one number from each of some lists: their sum, and the greatest of them.
-use Rattle.std.proofs.Common.{◌≡◌, ◌∙◌, ℕ, zero, suc, ◌+◌, ◌*◌, ◌<◌, ◌≤◌, List, [], ◌∷◌, ◌++◌, fold, length, map, max}
-use Rattle.std.proofs.Common.{refl, ap, ap₂, sym, ⊎_elim, arith}
-use Rattle.std.proofs.Math.Nat.{mul_comm}
-use Rattle.std.proofs.lemmas.Bool.{cases_lt}
-use Rattle.std.proofs.lemmas.List.Sums.{sum_by-cons}
-use Rattle.std.specs.List.{flat_map, range_with_len, sum}
-use Rattle.zarrs_chunk_base.specs.ArraySubset.{Box, IsEmptyBox}
-use Rattle.zarrs_chunk_axes.specs.RowMajor.{row_major, rows}
-use Rattle.zarrs_chunks.specs.Walks.{chunks_in, counted_from}
-use Rattle.zarrs_chunk_plan.specs.Counts.{product}
-use Rattle.zarrs_chunk_plan.specs.seen.Sources.{met_by, met_in}
+use Rattle.zarrs_chunk_plan.proofs.Common.{◌≡◌, ◌∙◌, ℕ, zero, suc, ◌+◌, ◌*◌, ◌<◌, ◌≤◌, List, [], ◌∷◌, ◌++◌, fold, length, map, max, refl, ap, ap₂}
+use Rattle.zarrs_chunk_plan.proofs.Common.{sym, ⊎_elim, arith, mul_comm, cases_lt, sum_by-cons, flat_map, range_with_len, sum, Box, IsEmptyBox}
+use Rattle.zarrs_chunk_plan.proofs.Common.{row_major, rows, chunks_in, counted_from, product, met_by, met_in}
 use Rattle.zarrs_chunk_plan.specs.seen.TargetCounts.{met_by_each}
 use Rattle.zarrs_chunk_plan.proofs.shares.Between.{none_below}
 

@@ -1,12 +1,12 @@
 -- Counting the chunks of one regular grid that meet those of another.
-use Rattle.std.proofs.Common.{◌≡◌, ◌∙◌, ◌↔◌, ℕ, zero, suc, ◌+◌, ◌-◌, ◌*◌, ◌/◌, ◌%◌, ◌<◌, ◌≤◌, ◌++◌, List, [], ◌∷◌, ap, arith, fold, length, max, nat_cmp, rules, subst, sym, tests, ⊎_elim}
+use Rattle.zarrs_chunk_plan.proofs.Common.{◌≡◌, ◌∙◌, ◌↔◌, ℕ, zero, suc, ◌+◌, ◌-◌, ◌*◌, ◌/◌, ◌%◌, ◌<◌, ◌≤◌, ◌++◌, List, [], ◌∷◌, ap, arith, fold}
+use Rattle.zarrs_chunk_plan.proofs.Common.{length, max, rules, subst, sym, tests, ⊎_elim, AllByRecursion, sum, all_meeting, mod-lt, mul-le-mul_right}
+use Rattle.zarrs_chunk_plan.proofs.Common.{cases_lt, sum_by-cons}
+use Rattle.std.proofs.Common.{nat_cmp}
 use Rattle.std.specs.Ordering.{ord_max}
-use Rattle.std.specs.List.{AllByRecursion, sum}
-use Rattle.zarrs_chunk_plan.specs.seen.RegularCounts.{all_meeting, meeting}
-use Rattle.std.proofs.Math.Nat.{div-eq_of_lt-le, mod-lt, mod-add-div', mul-le-mul_right, mul-suc}
-use Rattle.std.proofs.lemmas.Bool.{cases_lt}
+use Rattle.zarrs_chunk_plan.specs.seen.RegularCounts.{meeting}
+use Rattle.std.proofs.Math.Nat.{div-eq_of_lt-le, mod-add-div', mul-suc}
 use Rattle.std.proofs.lemmas.List.FromFn.{length-map-range_with_len}
-use Rattle.std.proofs.lemmas.List.Sums.{sum_by-cons}
 use Rattle.std.proofs.lemmas.Nat.{le-div}
 
 -- a number is a multiple of a, or not: by what is left of it

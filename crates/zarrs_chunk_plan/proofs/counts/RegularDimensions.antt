@@ -1,16 +1,13 @@
 -- Along regular dimensions where elements keep their index, the chunks met by each chunk but the first and the last are computed.
-use Rattle.std.proofs.Common.{◌≡◌, ◌∙◌, ℕ, zero, suc, ◌+◌, ◌-◌, ◌*◌, ◌/◌, ◌<◌, ◌≤◌, ◌++◌, List, [], ◌∷◌, IsTrue}
-use Rattle.std.proofs.Common.{ap, ap₂, arith, fold, map, max, refl, subst, sym}
+use Rattle.zarrs_chunk_plan.proofs.Common.{◌≡◌, ◌∙◌, ℕ, zero, suc, ◌+◌, ◌-◌, ◌*◌, ◌/◌, ◌<◌, ◌≤◌, ◌++◌, List, [], ◌∷◌, IsTrue, ap, ap₂, arith, fold}
+use Rattle.zarrs_chunk_plan.proofs.Common.{map, max, refl, subst, sym, sum_by-cons, range_with_len, sum, greatest, Dimension, Holds, IsChain}
+use Rattle.zarrs_chunk_plan.proofs.Common.{no_later, all_meeting, AreRanges, TakesSome, met_along, met_by_range, taken, taken_from}
 use Rattle.std.proofs.Math.Nat.{div-mul-le_self}
 use Rattle.std.proofs.lemmas.List.FromFn.{map-range_with_len_more}
-use Rattle.std.proofs.lemmas.List.Sums.{sum_by-cons, sum_by_push}
-use Rattle.std.specs.List.{range_with_len, sum}
-use Rattle.zarrs_chunk_base.specs.Greatest.{greatest}
-use Rattle.zarrs_chunk_base.specs.Dimension.{Dimension, Holds, IsChain}
+use Rattle.std.proofs.lemmas.List.Sums.{sum_by_push}
 use Rattle.zarrs_chunk_axes.specs.Along.{IsRegular}
-use Rattle.zarrs_chunks.proofs.Chains.{no_later}
-use Rattle.zarrs_chunk_plan.specs.seen.RegularCounts.{all_meeting, meeting}
-use Rattle.zarrs_chunk_plan.specs.seen.Sources.{AreRanges, RangeTakes, TakesSome, met_along, met_by_range, taken, taken_from}
+use Rattle.zarrs_chunk_plan.specs.seen.RegularCounts.{meeting}
+use Rattle.zarrs_chunk_plan.specs.seen.Sources.{RangeTakes}
 use Rattle.zarrs_chunk_plan.proofs.counts.MetChunks.{met_is}
 use Rattle.zarrs_chunk_plan.proofs.counts.RegularCounts.{fold_max, fold_max_push, left_of}
 use Rattle.zarrs_chunk_plan.proofs.counts.Written.{sum_fits, sum_more}

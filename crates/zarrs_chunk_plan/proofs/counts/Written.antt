@@ -1,13 +1,10 @@
 -- The chunks of the target that take some of a box: what they hold of it, along each dimension and all together.
-use Rattle.std.proofs.Common.{◌≡◌, ◌∙◌, ℕ, zero, suc, ◌+◌, ◌-◌, ◌<◌, ◌≤◌, List, [], ◌∷◌, Contains, IsTrue, fold, length, map, max}
-use Rattle.std.proofs.Common.{refl, ap, subst, arith}
+use Rattle.zarrs_chunk_plan.proofs.Common.{◌≡◌, ◌∙◌, ℕ, zero, suc, ◌+◌, ◌-◌, ◌<◌, ◌≤◌, List, [], ◌∷◌, Contains, IsTrue, fold, length, map, max, refl}
+use Rattle.zarrs_chunk_plan.proofs.Common.{ap, subst, arith, range_with_len, sum, AreWithin, lasts, Dimension, IsChain, head_some, tail_some}
+use Rattle.zarrs_chunk_plan.proofs.Common.{TakesSome, counters_from, met_along, met_by_range, met_in, taken, taken_from}
 use Rattle.std.proofs.lemmas.List.FromFn.{map-range_with_len_more}
 use Rattle.std.proofs.lemmas.List.Sums.{sum_by_push}
-use Rattle.std.specs.List.{range_with_len, sum}
-use Rattle.zarrs_chunk_base.specs.ArraySubset.{AreWithin, lasts}
-use Rattle.zarrs_chunk_base.specs.Dimension.{Dimension, IsChain}
-use Rattle.zarrs_chunks.proofs.Covers.{head_some, tail_some}
-use Rattle.zarrs_chunk_plan.specs.seen.Sources.{RangeTakes, TakesSome, counters_from, met_along, met_by_range, met_in, taken, taken_from}
+use Rattle.zarrs_chunk_plan.specs.seen.Sources.{RangeTakes}
 use Rattle.zarrs_chunk_plan.proofs.counts.MetChunks.{AllTakeSome, met_at_most}
 use Rattle.zarrs_chunk_plan.proofs.counts.RegularCounts.{fold_max_push}
 

@@ -1,26 +1,17 @@
 -- The chunks that a walk over the changes of a resize has left.
-use Rattle.std.proofs.Common.{◌≡◌, ◌≢◌, ◌↔◌, ◌∙◌, ℕ, suc, ◌+◌, ◌<◌, ◌≤◌, ◌^◌, List, [], ◌∷◌, Some, None, Option, length, zip}
-use Rattle.std.proofs.Common.{length-append, Bool, IsTrue, true, false, drop, get_or, is_some, map, ◌++◌, refl, ap, subst, sym, ⊎_elim, arith}
+use Rattle.zarrs_chunk_plan.proofs.Common.{◌≡◌, ◌≢◌, ◌↔◌, ◌∙◌, ℕ, suc, ◌+◌, ◌<◌, ◌≤◌, ◌^◌, List, [], ◌∷◌, Some, None, Option, length, zip}
+use Rattle.zarrs_chunk_plan.proofs.Common.{length-append, Bool, IsTrue, true, false, drop, get_or, map, ◌++◌, refl, ap, subst, sym, ⊎_elim, arith}
+use Rattle.zarrs_chunk_plan.proofs.Common.{drop-cons, nil_from_length, same_Some, AllByRecursion, Box, IsEmptyBox, Dimension, greatest, AreBelow}
+use Rattle.zarrs_chunk_plan.proofs.Common.{row_major, chunks_in, counted_from, head_some, tail_some, counted, IsChanged, IsKept, Change}
+use Rattle.zarrs_chunk_plan.proofs.Common.{chunks_of_boxes}
+use Rattle.std.proofs.Common.{is_some}
 use Rattle.std.proofs.Math.ListN.{drop_of_length-le}
-use Rattle.std.proofs.Math.Seq.{drop-cons}
 use Rattle.std.proofs.lemmas.Bool.{true≢false}
-use Rattle.std.proofs.lemmas.List.{nil_from_length}
-use Rattle.std.proofs.lemmas.Option.{none-some, same_Some}
-use Rattle.std.specs.List.{AllByRecursion}
+use Rattle.std.proofs.lemmas.Option.{none-some}
 use Rattle.std.specs.Option.{SomeIff}
-use Rattle.zarrs_chunk_base.specs.ArraySubset.{Box, IsEmptyBox}
-use Rattle.zarrs_chunk_base.specs.Dimension.{Dimension}
-use Rattle.zarrs_chunk_base.specs.Greatest.{greatest}
-use Rattle.zarrs_chunk_axes.specs.InBounds.{AreBelow}
-use Rattle.zarrs_chunk_axes.specs.RowMajor.{row_major}
-use Rattle.zarrs_chunks.specs.Walks.{chunks_in, counted_from}
-use Rattle.zarrs_chunks.proofs.Covers.{head_some, tail_some}
-use Rattle.zarrs_chunk_plan.specs.Counted.{counted}
-use Rattle.zarrs_chunk_plan.specs.Resize.{IsChanged, IsKept, MayHold}
-use Rattle.zarrs_chunk_plan.specs.declared.resize.plan.Change.{Change}
+use Rattle.zarrs_chunk_plan.specs.Resize.{MayHold}
 use Rattle.zarrs_chunk_plan.specs.declared.resize.plan.Held.{Held}
 use Rattle.zarrs_chunk_plan.specs.seen.Changes.{what_becomes}
-use Rattle.zarrs_chunk_plan.specs.seen.Outside.{chunks_of_boxes}
 use Rattle.zarrs_chunk_plan.proofs.ByNumber.{as_many, counted_cases, length-shape}
 use Rattle.zarrs_chunk_plan.proofs.shares.Between.{none_below}
 use Rattle.zarrs_chunk_plan.proofs.shares.Ranks.{times_le}

@@ -1,13 +1,10 @@
 -- Which chunks a resize keeps, dimension by dimension.
-use Rattle.std.proofs.Common.{◌≡◌, ◌↔◌, ◌⊎◌, ℕ, zero, suc, ◌+◌, ◌-◌, ◌<◌, ◌≤◌, List, [], ◌∷◌, arith, length, min, slice_index_or}
-use Rattle.std.proofs.Common.{ap₂, subst, sym, ⊎_elim}
-use Rattle.std.proofs.lemmas.Bool.{cases_lt}
-use Rattle.std.specs.List.{AllByRecursion}
-use Rattle.zarrs_chunk_base.specs.Dimension.{Dimension, Holds, InBox, InEach, IsChain, IsShape, array_sizes}
+use Rattle.zarrs_chunk_plan.proofs.Common.{◌≡◌, ◌↔◌, ◌⊎◌, ℕ, zero, suc, ◌+◌, ◌-◌, ◌<◌, ◌≤◌, List, [], ◌∷◌, arith, length, min, slice_index_or, ap₂}
+use Rattle.zarrs_chunk_plan.proofs.Common.{subst, sym, ⊎_elim, cases_lt, AllByRecursion, Dimension, Holds, InBox, InEach, IsChain, IsShape}
+use Rattle.zarrs_chunk_plan.proofs.Common.{array_sizes, AreBelow, AreResized, HasElementOf, IsKept, IsUsed, HoldsSome}
 use Rattle.zarrs_chunk_axes.specs.Along.{IsRangeAlong}
-use Rattle.zarrs_chunk_axes.specs.InBounds.{AreBelow}
-use Rattle.zarrs_chunk_plan.specs.Resize.{AreResized, HasElementOf, IsKept, IsResized, IsUsed}
-use Rattle.zarrs_chunk_plan.specs.seen.Used.{HasExtent, HasExtentAlong, HoldsSome, KeepsAlong, KeptAlong}
+use Rattle.zarrs_chunk_plan.specs.Resize.{IsResized}
+use Rattle.zarrs_chunk_plan.specs.seen.Used.{HasExtent, HasExtentAlong, KeepsAlong, KeptAlong}
 use Rattle.zarrs_chunk_plan.proofs.HeldBoxes.{AllHoldSome, meets_hold}
 use Rattle.zarrs_chunk_plan.proofs.Rechunkings.{in_array}
 use Rattle.zarrs_chunk_plan.proofs.SomePlan.{has_shape}

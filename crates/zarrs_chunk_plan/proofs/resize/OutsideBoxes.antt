@@ -1,13 +1,12 @@
 -- The boxes of the chunks that are below one list of numbers and not below another.
-use Rattle.std.proofs.Common.{◌≡◌, ◌≢◌, ◌↔◌, ◌⊎◌, ◌∙◌, ℕ, zero, suc, ◌-◌, ◌<◌, ◌≤◌, List, [], ◌∷◌, ◌++◌, Contains, get_or, length}
-use Rattle.std.proofs.Common.{Bool, append-nil, length-set, map, replicate, set, refl, ap, inl, inr, subst, sym, ⊎_elim, arith}
+use Rattle.zarrs_chunk_plan.proofs.Common.{◌≡◌, ◌≢◌, ◌↔◌, ◌⊎◌, ◌∙◌, ℕ, zero, suc, ◌-◌, ◌<◌, ◌≤◌, List, [], ◌∷◌, ◌++◌, Contains, get_or, length, Bool}
+use Rattle.zarrs_chunk_plan.proofs.Common.{append-nil, map, replicate, set, refl, ap, inl, inr, subst, sym, ⊎_elim, arith, AreWithin, Box, IsBox}
+use Rattle.zarrs_chunk_plan.proofs.Common.{IsEmptyBox, IsInside, AreBelow, chunks_in, counted_from, are_those_inside, chunks_once, chunks_of_boxes}
+use Rattle.zarrs_chunk_plan.proofs.Common.{lesser}
+use Rattle.std.proofs.Common.{length-set}
 use Rattle.std.proofs.lemmas.Grind.{flat_map-append, same_number_lists}
 use Rattle.std.proofs.lemmas.List.{get_or-set_other, get_or-set_same}
-use Rattle.zarrs_chunk_base.specs.ArraySubset.{AreWithin, Box, IsBox, IsEmptyBox, IsInside}
-use Rattle.zarrs_chunk_axes.specs.InBounds.{AreBelow}
-use Rattle.zarrs_chunks.specs.Walks.{chunks_in, counted_from}
-use Rattle.zarrs_chunks.proofs.ChunksInBoxes.{are_those_inside, chunks_once}
-use Rattle.zarrs_chunk_plan.specs.seen.Outside.{AreOnce, IsOutside, IsToldBefore, chunks_of_boxes, lesser}
+use Rattle.zarrs_chunk_plan.specs.seen.Outside.{AreOnce, IsOutside, IsToldBefore}
 use Rattle.zarrs_chunk_plan.proofs.shares.Between.{none_below}
 use Rattle.zarrs_chunk_plan.proofs.BoxCover.{below_from_zero}
 use Rattle.zarrs_chunk_plan.proofs.copy.Joined.{has_either, pairs_of_both}

@@ -1,14 +1,10 @@
 -- What holds of each plan of a resize.
-use Rattle.std.proofs.Common.{◌≡◌, ◌≢◌, ◌↔◌, ◌⊎◌, ◌∙◌, ℕ, Bool, false, List, [], ◌∷◌, Contains, length, refl, inl, inr, subst, sym, ⊎_elim, arith}
-use Rattle.std.specs.List.{AllByRecursion, AllPairs}
-use Rattle.zarrs_chunk_base.specs.Dimension.{Dimension, Holds, InBox, InEach, IsChain, IsPlace, array_sizes}
-use Rattle.zarrs_chunk_base.specs.Greatest.{AllFit}
+use Rattle.zarrs_chunk_plan.proofs.Common.{◌≡◌, ◌≢◌, ◌↔◌, ◌⊎◌, ◌∙◌, ℕ, Bool, false, List, [], ◌∷◌, Contains, length, refl, inl, inr, subst, sym}
+use Rattle.zarrs_chunk_plan.proofs.Common.{⊎_elim, arith, AllByRecursion, AllPairs, Dimension, Holds, InBox, InEach, IsChain, IsPlace, array_sizes}
+use Rattle.zarrs_chunk_plan.proofs.Common.{AllFit, AreBelow, inside_fits, array_box, AreResized, HasElementOf, IsChange, IsChanged, IsKept, IsUsed}
+use Rattle.zarrs_chunk_plan.proofs.Common.{Change}
 use Rattle.zarrs_chunk_base.proofs.InEach.{by_dimension, length_numbers}
-use Rattle.zarrs_chunk_axes.specs.InBounds.{AreBelow}
-use Rattle.zarrs_chunks.proofs.ChunksInBoxes.{inside_fits}
-use Rattle.zarrs_chunk_plan.specs.Rechunking.{array_box}
-use Rattle.zarrs_chunk_plan.specs.Resize.{AreResized, HasElementOf, IsAsked, IsChange, IsChanged, IsKept, IsResizePlan, IsUsed}
-use Rattle.zarrs_chunk_plan.specs.declared.resize.plan.Change.{Change}
+use Rattle.zarrs_chunk_plan.specs.Resize.{IsAsked, IsResizePlan}
 use Rattle.zarrs_chunk_plan.specs.declared.resize.plan.Change.TheVariants.{Delete, Keep, New, Rewrite}
 use Rattle.zarrs_chunk_plan.specs.declared.resize.plan.ChunkChange.{ChunkChange}
 use Rattle.zarrs_chunk_plan.specs.seen.Used.{KeptAlong}

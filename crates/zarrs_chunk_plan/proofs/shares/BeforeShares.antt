@@ -1,12 +1,9 @@
 -- How many of so many come before a share.
-use Rattle.std.proofs.Common.{◌≡◌, ◌⊎◌, ◌∙◌, ℕ, zero, suc, ◌+◌, ◌-◌, ◌*◌, ◌/◌, ◌%◌, ◌^◌, ◌<◌, ◌≤◌}
-use Rattle.std.proofs.Common.{Some, None, ap, inl, inr, min, refl, sym, ⊎_elim, arith}
-use Rattle.std.proofs.Math.Nat.{div-add-mod, div-eq_of_lt, div-mul-le_self, mul-add-div, mul-zero, mul_assoc, mul_comm}
-use Rattle.std.proofs.lemmas.Bool.{cases_lt}
+use Rattle.zarrs_chunk_plan.proofs.Common.{◌≡◌, ◌⊎◌, ◌∙◌, ℕ, zero, suc, ◌+◌, ◌-◌, ◌*◌, ◌/◌, ◌%◌, ◌^◌, ◌<◌, ◌≤◌, Some, None, ap, inl, inr, min, refl}
+use Rattle.zarrs_chunk_plan.proofs.Common.{sym, ⊎_elim, arith, div-add-mod, div-eq_of_lt, mul-zero, mul_assoc, mul_comm, cases_lt, greatest, counted}
+use Rattle.zarrs_chunk_plan.proofs.Common.{before_share}
+use Rattle.std.proofs.Math.Nat.{div-mul-le_self, mul-add-div}
 use Rattle.std.proofs.lemmas.Nat.{div-mul-add, le-div}
-use Rattle.zarrs_chunk_base.specs.Greatest.{greatest}
-use Rattle.zarrs_chunk_plan.specs.Counted.{counted}
-use Rattle.zarrs_chunk_plan.specs.Shares.{before_share}
 use Rattle.zarrs_chunk_plan.proofs.ByNumber.{counted_cases}
 use Rattle.zarrs_chunk_plan.proofs.shares.Ranks.{times_le}
 

@@ -1,20 +1,18 @@
 -- A walk through the lists below a shape from one on up to another: where it begins, and how it goes on.
-use Rattle.std.proofs.Common.{◌≡◌, ◌↔◌, ◌⊎◌, ◌∙◌, ℕ, zero, suc, ◌+◌, ◌-◌, ◌<◌, ◌≤◌, Bool, true}
-use Rattle.std.proofs.Common.{false, IsTrue, List, [], ◌∷◌, Contains, Option, Some, None}
-use Rattle.std.proofs.Common.{drop, length, map, take, refl, ap, inl, inr, subst, sym, true≢false, ⊎_elim, arith}
-use Rattle.std.proofs.Math.Seq.{drop-nil, take-nil}
-use Rattle.std.proofs.lemmas.Bool.{cases_lt}
-use Rattle.std.proofs.lemmas.List.{drop-map, length-map, nil_from_length, take-map}
+use Rattle.zarrs_chunk_plan.proofs.Common.{◌≡◌, ◌↔◌, ◌⊎◌, ◌∙◌, ℕ, zero, suc, ◌+◌, ◌-◌, ◌<◌, ◌≤◌, Bool, true, false, IsTrue, List, [], ◌∷◌, Contains}
+use Rattle.zarrs_chunk_plan.proofs.Common.{Option, Some, None, drop, length, map, take, refl, ap, inl, inr, subst, sym, true≢false, ⊎_elim, arith}
+use Rattle.zarrs_chunk_plan.proofs.Common.{drop-nil, cases_lt, drop-map, length-map, nil_from_length, AreBelow, row_major, length_below, before_share}
+use Rattle.zarrs_chunk_plan.proofs.Common.{between, rank}
+use Rattle.std.proofs.Math.Seq.{take-nil}
+use Rattle.std.proofs.lemmas.List.{take-map}
 use Rattle.std.specs.List.{refill}
 use Rattle.std.specs.Option.{ForSome}
 use Rattle.smallvec.specs.SmallVec.{SmallVec}
-use Rattle.zarrs_chunk_axes.specs.InBounds.{AreBelow}
-use Rattle.zarrs_chunk_axes.specs.RowMajor.{row_major}
 use Rattle.zarrs_chunk_axes.specs.seen.Counting.{after, from}
-use Rattle.zarrs_chunks.proofs.ChunksInBoxes.{length_below, written}
-use Rattle.zarrs_chunk_plan.specs.Shares.{before_share, between, share_of}
+use Rattle.zarrs_chunks.proofs.ChunksInBoxes.{written}
+use Rattle.zarrs_chunk_plan.specs.Shares.{share_of}
 use Rattle.zarrs_chunk_plan.specs.declared.shares.share.Share.{Share}
-use Rattle.zarrs_chunk_plan.specs.seen.Between.{IsEnd, end_rank, lists_between, rank}
+use Rattle.zarrs_chunk_plan.specs.seen.Between.{IsEnd, end_rank, lists_between}
 use Rattle.zarrs_chunk_plan.proofs.ByNumber.{some_size}
 use Rattle.zarrs_chunk_plan.proofs.shares.Ranks.{drop_rank, rank_next, rank_same, rank_within}
 

@@ -1,17 +1,10 @@
 -- A walk through the lists below a shape from the one with a number on.
-use Rattle.std.proofs.Common.{◌≡◌, ◌∙◌, ℕ, ◌+◌, ◌-◌, ◌<◌, ◌≤◌, List, Some, ap, drop, get_or, length, map, replicate, subst, sym, ⊎_elim, arith}
-use Rattle.std.proofs.Math.Seq.{take-length}
-use Rattle.std.proofs.lemmas.Bool.{cases_lt}
-use Rattle.std.proofs.lemmas.List.{drop-map, get_or-drop, length-drop}
-use Rattle.std.proofs.lemmas.Option.{get_or_from_slice_get, slice_get-map, slice_get_within}
-use Rattle.std.specs.List.{slice_get}
-use Rattle.zarrs_chunk_axes.specs.InBounds.{AreBelow}
-use Rattle.zarrs_chunk_axes.specs.RowMajor.{row_major}
+use Rattle.zarrs_chunk_plan.proofs.Common.{◌≡◌, ◌∙◌, ℕ, ◌+◌, ◌-◌, ◌<◌, ◌≤◌, List, Some, ap, drop, get_or, length, map, replicate, subst, sym, ⊎_elim}
+use Rattle.zarrs_chunk_plan.proofs.Common.{arith, take-length, cases_lt, drop-map, length-drop, get_or_from_slice_get, slice_get_within, slice_get}
+use Rattle.zarrs_chunk_plan.proofs.Common.{AreBelow, row_major, chunks_in, counted_from, length_below, between, rank}
+use Rattle.std.proofs.lemmas.List.{get_or-drop}
+use Rattle.std.proofs.lemmas.Option.{slice_get-map}
 use Rattle.zarrs_chunk_axes.proofs.RowMajorOrder.{are_those_below, each_once}
-use Rattle.zarrs_chunks.specs.Walks.{chunks_in, counted_from}
-use Rattle.zarrs_chunks.proofs.ChunksInBoxes.{length_below}
-use Rattle.zarrs_chunk_plan.specs.Shares.{between}
-use Rattle.zarrs_chunk_plan.specs.seen.Between.{rank}
 use Rattle.zarrs_chunk_plan.proofs.ByNumber.{some_of}
 use Rattle.zarrs_chunk_plan.proofs.shares.Ranks.{drop_rank, rank_within}
 use Rattle.zarrs_chunk_plan.proofs.Rechunkings.{counted_from_zeros}

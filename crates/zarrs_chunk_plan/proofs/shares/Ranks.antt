@@ -1,15 +1,12 @@
 -- The place of a list below a shape among all of them, and the list at a part of the way.
-use Rattle.std.proofs.Common.{◌≡◌, ◌∙◌, ℕ, zero, suc, ◌+◌, ◌-◌, ◌*◌, ◌<◌, ◌≤◌, ◌/◌, ◌%◌, List, []}
-use Rattle.std.proofs.Common.{◌∷◌, ◌++◌, Contains, drop, length, map, refl, ap, sym, ⊎_elim, arith}
-use Rattle.std.proofs.Math.Nat.{div-add-mod, div-eq_of_lt, mod-lt, mul-add-div, mul-suc, mul-zero, mul_assoc}
-use Rattle.std.proofs.lemmas.Bool.{cases_lt}
-use Rattle.std.proofs.lemmas.List.{drop-append-le, drop-map, length-drop, length-map}
+use Rattle.zarrs_chunk_plan.proofs.Common.{◌≡◌, ◌∙◌, ℕ, zero, suc, ◌+◌, ◌-◌, ◌*◌, ◌<◌, ◌≤◌, ◌/◌, ◌%◌, List, [], ◌∷◌, ◌++◌, Contains, drop, length}
+use Rattle.zarrs_chunk_plan.proofs.Common.{map, refl, ap, sym, ⊎_elim, arith, div-add-mod, div-eq_of_lt, mod-lt, mul-zero, mul_assoc, cases_lt}
+use Rattle.zarrs_chunk_plan.proofs.Common.{drop-map, length-drop, length-map, AreBelow, row_major, rows, head_some, tail_some, rank}
+use Rattle.std.proofs.Math.Nat.{mul-add-div, mul-suc}
+use Rattle.std.proofs.lemmas.List.{drop-append-le}
 use Rattle.std.proofs.Math.Seq.{drop-append-add}
-use Rattle.zarrs_chunk_axes.specs.InBounds.{AreBelow}
-use Rattle.zarrs_chunk_axes.specs.RowMajor.{row_major, rows}
 use Rattle.zarrs_chunk_axes.specs.seen.Counting.{after}
-use Rattle.zarrs_chunks.proofs.Covers.{head_some, tail_some}
-use Rattle.zarrs_chunk_plan.specs.seen.Between.{digits, rank}
+use Rattle.zarrs_chunk_plan.specs.seen.Between.{digits}
 use Rattle.zarrs_chunk_plan.proofs.ByNumber.{length-shape}
 
 -- ---- the place of a list

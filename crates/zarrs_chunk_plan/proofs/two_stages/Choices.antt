@@ -1,17 +1,15 @@
 -- A choice of one edge from each of some rows that takes the fewest reads.
-use Rattle.std.proofs.Common.{◌≡◌, ◌∙◌, ℕ, zero, suc, ◌+◌, ◌*◌, ◌/◌, ◌<◌, ◌≤◌, ◌⊎◌, List, [], ◌∷◌, ◌++◌, Contains, inl, inr, IfSome, MatchOption, Option, Some, None}
-use Rattle.std.proofs.Common.{ap, arith, le-div_iff_mul-le, length, map, min, mul_assoc, mul_comm, refl, slice_index_or, subst, sym, take, ⊎_elim}
+use Rattle.zarrs_chunk_plan.proofs.Common.{◌≡◌, ◌∙◌, ℕ, zero, suc, ◌+◌, ◌*◌, ◌/◌, ◌<◌, ◌≤◌, ◌⊎◌, List, [], ◌∷◌, ◌++◌, Contains, inl, inr, IfSome}
+use Rattle.zarrs_chunk_plan.proofs.Common.{MatchOption, Option, Some, None, ap, arith, length, map, min, refl, slice_index_or, subst, sym, take}
+use Rattle.zarrs_chunk_plan.proofs.Common.{⊎_elim, cases_lt, le-ltb, lt-ltb, length-map, map-append, reverse-append, Contains-append_cases}
+use Rattle.zarrs_chunk_plan.proofs.Common.{Contains-append_left, Contains-append_right, non_zero_u64_get, greatest, product, Edge, Ascend}
+use Rattle.zarrs_chunk_plan.proofs.Common.{FindsFewest, IsChoice, edge_of}
+use Rattle.std.proofs.Common.{le-div_iff_mul-le, mul_assoc, mul_comm}
 use Rattle.std.proofs.ByRecursion.{All-get_or}
-use Rattle.std.proofs.lemmas.Bool.{cases_lt, le-ltb, lt-ltb}
-use Rattle.std.proofs.lemmas.List.{get_or-map, length-map, map-append, reverse-append}
-use Rattle.std.proofs.lemmas.List.Elements.{Contains-append_cases, Contains-append_left, Contains-append_right}
-use Rattle.std.specs.Int.NonZero.{non_zero_u64_get}
-use Rattle.zarrs_chunk_base.specs.Greatest.{greatest}
+use Rattle.std.proofs.lemmas.List.{get_or-map}
 use Rattle.zarrs_chunk_axes.specs.RowMajor.{IsBefore}
-use Rattle.zarrs_chunk_plan.specs.Counts.{product}
 use Rattle.zarrs_chunk_plan.specs.declared.two_stages.fewest.Chosen.{Chosen}
-use Rattle.zarrs_chunk_plan.specs.declared.two_stages.fewest.Edge.{Edge}
-use Rattle.zarrs_chunk_plan.specs.seen.Stages.{Ascend, FindsFewest, IsChoice, IsFewest, better_of, edge_of, held, reads_of}
+use Rattle.zarrs_chunk_plan.specs.seen.Stages.{IsFewest, better_of, held, reads_of}
 
 -- ---- products up to the greatest number
 

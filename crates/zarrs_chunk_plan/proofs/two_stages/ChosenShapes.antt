@@ -1,27 +1,20 @@
 -- A choice that takes the fewest reads is the shape of an array between by which two stages do.
-use Rattle.std.proofs.Common.{◌≡◌, ◌↔◌, ◌∙◌, ℕ, ◌+◌, ◌-◌, ◌<◌, ◌≤◌, ◌^◌, List, [], ◌∷◌, ◌++◌, Contains, Global, IfSome, MatchOption, None, Option, Some, Vec, length, map, max, min}
-use Rattle.std.proofs.Common.{ap, ap₂, arith, mul-pos, refl, replicate, option_map, reverse, subst, sym, ⊎_elim}
-use Rattle.std.proofs.lemmas.List.{length-map, length-replicate, map-append, reverse-append, reverse-reverse}
+use Rattle.zarrs_chunk_plan.proofs.Common.{◌≡◌, ◌↔◌, ◌∙◌, ℕ, ◌+◌, ◌-◌, ◌<◌, ◌≤◌, ◌^◌, List, [], ◌∷◌, ◌++◌, Contains, Global, IfSome, MatchOption}
+use Rattle.zarrs_chunk_plan.proofs.Common.{None, Option, Some, Vec, length, map, max, min, ap, ap₂, arith, refl, replicate, subst, sym, ⊎_elim}
+use Rattle.zarrs_chunk_plan.proofs.Common.{length-map, length-replicate, map-append, reverse-append, same_Some, AllZip-long, non_zero_u64_get}
+use Rattle.zarrs_chunk_plan.proofs.Common.{AllByRecursion, AllZip, Box, IsBox, IsEmptyBox, IsInside, Dimension, IsChain, IsShape, array_sizes}
+use Rattle.zarrs_chunk_plan.proofs.Common.{greatest, length_values, chunks_in, counted_from, made_of, source_of, product, Meets, AreCopiesInto, Group}
+use Rattle.zarrs_chunk_plan.proofs.Common.{IsRechunking, all_chunks_box, array_box, copies_of, all_tried, shapes_tried, Edge, Ascend, FindsFewest}
+use Rattle.zarrs_chunk_plan.proofs.Common.{IsChoice, edge_of}
+use Rattle.std.proofs.Common.{mul-pos, option_map, reverse}
+use Rattle.std.proofs.lemmas.List.{reverse-reverse}
 use Rattle.std.proofs.lemmas.List.Elements.{All-replicate, recursion_from_All}
-use Rattle.std.proofs.lemmas.Option.{same_Some}
-use Rattle.std.proofs.lemmas.Slice.Zip.{AllZip-long}
-use Rattle.std.specs.Int.NonZero.{non_zero_u64_get}
-use Rattle.std.specs.List.{AllByRecursion, AllZip}
 use Rattle.std.specs.declared.num.NonZeroU64.{NonZeroU64}
-use Rattle.zarrs_chunk_base.specs.ArraySubset.{Box, IsBox, IsEmptyBox, IsInside}
-use Rattle.zarrs_chunk_base.specs.Dimension.{Dimension, HasEdge, IsChain, IsShape, array_sizes}
-use Rattle.zarrs_chunk_base.specs.Greatest.{greatest}
+use Rattle.zarrs_chunk_base.specs.Dimension.{HasEdge}
 use Rattle.zarrs_chunk_axes.specs.RowMajor.{IsBefore}
-use Rattle.zarrs_chunk_base.proofs.InEach.{length_values}
-use Rattle.zarrs_chunks.specs.Walks.{chunks_in, counted_from}
-use Rattle.zarrs_chunks.proofs.ChunksInBoxes.{made_of, source_of}
-use Rattle.zarrs_chunk_plan.specs.Counts.{product}
-use Rattle.zarrs_chunk_parts.specs.Plan.{Meets}
-use Rattle.zarrs_chunk_plan.specs.Rechunking.{AreCopiesInto, Group, IsRechunking, all_chunks_box, array_box, copies_of}
-use Rattle.zarrs_chunk_plan.specs.Stages.{AnyKey, AreStages, FindsShape, Fits, IsChosen, IsLargest, IsTried, all_tried, shapes_tried}
+use Rattle.zarrs_chunk_plan.specs.Stages.{AnyKey, AreStages, FindsShape, Fits, IsChosen, IsLargest, IsTried}
 use Rattle.zarrs_chunk_plan.specs.declared.two_stages.fewest.Chosen.{Chosen}
-use Rattle.zarrs_chunk_plan.specs.declared.two_stages.fewest.Edge.{Edge}
-use Rattle.zarrs_chunk_plan.specs.seen.Stages.{AllAscend, AreRows, Ascend, FindsFewest, IsChoice, IsFewest, edge_of, held, reads_of}
+use Rattle.zarrs_chunk_plan.specs.seen.Stages.{AllAscend, AreRows, IsFewest, held, reads_of}
 use Rattle.zarrs_chunk_plan.proofs.two_stages.EdgesTried.{only_ones, tried_long}
 use Rattle.zarrs_chunk_plan.proofs.two_stages.EqualChunks.{one_box, sizes_are}
 use Rattle.zarrs_chunk_plan.proofs.Plans.{empty_or_some, not_empty_if_inside}

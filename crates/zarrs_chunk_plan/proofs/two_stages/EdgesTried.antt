@@ -1,12 +1,9 @@
 -- The edges that are tried: an edge that is doubled as long as it is below another; for each dimension; and how many that are.
-use Rattle.std.proofs.Common.{◌≡◌, ◌∙◌, ℕ, zero, suc, ◌+◌, ◌*◌, ◌-◌, ◌<◌, ◌≤◌, List, [], ◌∷◌, ◌++◌, ap, append_assoc, arith, length, max, min, mul_comm}
-use Rattle.std.proofs.Common.{Contains, ap₂, refl, replicate, slice_index_or, subst, sym, ⊎_elim}
-use Rattle.std.proofs.lemmas.Bool.{cases_lt, le-ltb, lt-ltb}
-use Rattle.std.specs.List.{AllByRecursion}
-use Rattle.zarrs_chunk_base.specs.Greatest.{greatest}
-use Rattle.zarrs_chunk_plan.specs.Counts.{product}
-use Rattle.zarrs_chunk_plan.specs.Stages.{IsTried, all_tried, doubled, edges_tried}
-use Rattle.zarrs_chunk_plan.specs.seen.Stages.{Ascend}
+use Rattle.zarrs_chunk_plan.proofs.Common.{◌≡◌, ◌∙◌, ℕ, zero, suc, ◌+◌, ◌*◌, ◌-◌, ◌<◌, ◌≤◌, List, [], ◌∷◌, ◌++◌, ap, append_assoc, arith, length, max}
+use Rattle.zarrs_chunk_plan.proofs.Common.{min, Contains, ap₂, refl, replicate, slice_index_or, subst, sym, ⊎_elim, cases_lt, le-ltb, lt-ltb}
+use Rattle.zarrs_chunk_plan.proofs.Common.{AllByRecursion, greatest, product, all_tried, doubled, Ascend}
+use Rattle.std.proofs.Common.{mul_comm}
+use Rattle.zarrs_chunk_plan.specs.Stages.{IsTried, edges_tried}
 use Rattle.zarrs_chunk_plan.proofs.bytes.StoredOrder.{product_last}
 
 pub not_at_all : (edge last : ℕ) → doubled 0 edge last ≡ last ∷ []

@@ -1,16 +1,11 @@
 -- Dimensions of equal edges: they are chains, each chunk that they count holds an element of the array, and none is longer than the edges.
-use Rattle.std.proofs.Common.{◌≡◌, ◌∙◌, ℕ, zero, suc, ◌+◌, ◌*◌, ◌/◌, ◌<◌, ◌≤◌, List, [], ◌∷◌, length, replicate}
-use Rattle.std.proofs.Common.{ap, ap₂, arith, div-lt_iff_lt-mul, div-mul-le_self, mul-le-mul_right, sym, ⊎_elim}
-use Rattle.std.proofs.lemmas.Bool.{cases_lt}
-use Rattle.std.proofs.lemmas.List.{length-map}
-use Rattle.std.specs.List.{AllByRecursion, AllZip}
-use Rattle.zarrs_chunk_base.specs.ArraySubset.{IsInside}
-use Rattle.zarrs_chunk_base.specs.Dimension.{Dimension, Holds, InBox, IsChain, IsShape, array_sizes, grid_sizes}
+use Rattle.zarrs_chunk_plan.proofs.Common.{◌≡◌, ◌∙◌, ℕ, zero, suc, ◌+◌, ◌*◌, ◌/◌, ◌<◌, ◌≤◌, List, [], ◌∷◌, length, replicate, ap, ap₂, arith, sym}
+use Rattle.zarrs_chunk_plan.proofs.Common.{⊎_elim, cases_lt, length-map, AllByRecursion, AllZip, IsInside, Dimension, Holds, InBox, IsChain, IsShape}
+use Rattle.zarrs_chunk_plan.proofs.Common.{array_sizes, IsEqualEdges, AreBelow, Meets, all_chunks_box, array_box}
+use Rattle.std.proofs.Common.{div-lt_iff_lt-mul, div-mul-le_self, mul-le-mul_right}
+use Rattle.zarrs_chunk_base.specs.Dimension.{grid_sizes}
 use Rattle.zarrs_chunk_base.proofs.InEach.{numbers_are}
-use Rattle.zarrs_chunk_axes.specs.EqualEdges.{AreEqualEdges, IsEqualEdges}
-use Rattle.zarrs_chunk_axes.specs.InBounds.{AreBelow}
-use Rattle.zarrs_chunk_parts.specs.Plan.{Meets}
-use Rattle.zarrs_chunk_plan.specs.Rechunking.{all_chunks_box, array_box}
+use Rattle.zarrs_chunk_axes.specs.EqualEdges.{AreEqualEdges}
 use Rattle.zarrs_chunk_plan.specs.Stages.{NoneIsLonger}
 use Rattle.zarrs_chunk_plan.proofs.Rechunkings.{from_zero, in_array}
 

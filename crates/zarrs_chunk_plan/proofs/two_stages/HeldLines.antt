@@ -1,13 +1,8 @@
 -- How many elements the two chunks of a copy have.
-use Rattle.std.proofs.Common.{◌≡◌, ℕ, ◌≤◌, List, [], ◌∷◌, Contains, arith, mul-le-mul, subst, sym}
-use Rattle.std.specs.List.{AllByRecursion, AllZip}
-use Rattle.zarrs_chunk_base.specs.ArraySubset.{Box, IsInside}
-use Rattle.zarrs_chunk_base.specs.Dimension.{Dimension, IsChain, array_sizes}
-use Rattle.zarrs_chunk_plan.specs.Counts.{product}
-use Rattle.zarrs_chunk_parts.specs.Plan.{Meets}
-use Rattle.zarrs_chunk_plan.specs.Rechunking.{Group, IsRechunking, array_box, copies_of}
+use Rattle.zarrs_chunk_plan.proofs.Common.{◌≡◌, ℕ, ◌≤◌, List, [], ◌∷◌, Contains, arith, subst, sym, AllByRecursion, AllZip, Box, IsInside, Dimension}
+use Rattle.zarrs_chunk_plan.proofs.Common.{IsChain, array_sizes, product, Meets, Group, IsRechunking, array_box, copies_of, Part}
+use Rattle.std.proofs.Common.{mul-le-mul}
 use Rattle.zarrs_chunk_plan.specs.Stages.{HoldAtMost, NoneIsLonger}
-use Rattle.zarrs_chunk_parts.specs.declared.part.Part.{Part}
 use Rattle.zarrs_chunk_plan.proofs.two_stages.EqualChunks.{one_box}
 use Rattle.zarrs_chunk_plan.proofs.copy.Exchanged.{what_it_is_of}
 use Rattle.zarrs_chunk_plan.proofs.Rechunkings.{those_are}

@@ -1,18 +1,14 @@
 -- A chunk that is a longest one along each dimension is a largest one.
-use Rattle.std.proofs.Common.{◌≡◌, ◌⊎◌, ℕ, suc, ◌+◌, ◌-◌, ◌<◌, ◌≤◌, Bool, true, false, IsTrue, List, [], ◌∷◌, ◌++◌, Contains, get_or, length}
-use Rattle.std.proofs.Common.{ap₂, arith, inl, inr, max, refl, replicate, subst, sym, true≢false, ⊎_elim}
-use Rattle.std.proofs.lemmas.Bool.{cases_lt}
+use Rattle.zarrs_chunk_plan.proofs.Common.{◌≡◌, ◌⊎◌, ℕ, suc, ◌+◌, ◌-◌, ◌<◌, ◌≤◌, Bool, true, false, IsTrue, List, [], ◌∷◌, ◌++◌, Contains, get_or}
+use Rattle.zarrs_chunk_plan.proofs.Common.{length, ap₂, arith, inl, inr, max, refl, replicate, subst, sym, true≢false, ⊎_elim, cases_lt, AllZip, Box}
+use Rattle.zarrs_chunk_plan.proofs.Common.{IsEmptyBox, Dimension, InEach, IsChain, IsShape, Along, earlier_has, head_some, tail_some, array_box}
+use Rattle.zarrs_chunk_plan.proofs.Common.{HoldsSome, IsLongest, UsesFirst}
 use Rattle.std.proofs.lemmas.List.{get_or_append_left, get_or_push}
-use Rattle.std.specs.List.{AllZip}
-use Rattle.zarrs_chunk_base.specs.ArraySubset.{Box, IsEmptyBox}
-use Rattle.zarrs_chunk_base.specs.Dimension.{Dimension, HasEdge, InEach, IsChain, IsShape}
-use Rattle.zarrs_chunk_axes.specs.Along.{Along, IsRegular}
-use Rattle.zarrs_chunks.proofs.Chains.{earlier_has, in_chain}
-use Rattle.zarrs_chunks.proofs.Covers.{head_some, tail_some}
+use Rattle.zarrs_chunk_base.specs.Dimension.{HasEdge}
+use Rattle.zarrs_chunk_axes.specs.Along.{IsRegular}
+use Rattle.zarrs_chunks.proofs.Chains.{in_chain}
 use Rattle.zarrs_chunk_plan.specs.Counts.{AreFew}
-use Rattle.zarrs_chunk_plan.specs.Rechunking.{array_box}
 use Rattle.zarrs_chunk_plan.specs.Stages.{AreUsed, HasManyChunks, IsLargest}
-use Rattle.zarrs_chunk_plan.specs.seen.Used.{HoldsSome, IsLongest, UsesFirst}
 use Rattle.zarrs_chunk_plan.proofs.HeldBoxes.{AllHoldSome, hold_meets, meets_hold}
 use Rattle.zarrs_chunk_plan.proofs.Plans.{not_empty_if_inside}
 use Rattle.zarrs_chunk_plan.proofs.counts.RegularDimensions.{regular_start}

@@ -1,16 +1,9 @@
 -- Two rechunkings, the second of what the first one leaves, are together one.
-use Rattle.std.proofs.Common.{◌≡◌, ◌∙◌, ℕ, List, [], ◌∷◌, Contains, ap₂, refl, subst, sym, arith}
-use Rattle.std.specs.List.{AllByRecursion}
-use Rattle.zarrs_chunk_base.specs.ArraySubset.{Box}
-use Rattle.zarrs_chunk_base.specs.Dimension.{Dimension, IsChain, IsPlace, array_sizes}
-use Rattle.zarrs_chunk_axes.specs.InBounds.{AreBelow}
-use Rattle.zarrs_chunks.specs.Walks.{counted_from}
+use Rattle.zarrs_chunk_plan.proofs.Common.{◌≡◌, ◌∙◌, ℕ, List, [], ◌∷◌, Contains, ap₂, refl, subst, sym, arith, AllByRecursion, Box, Dimension}
+use Rattle.zarrs_chunk_plan.proofs.Common.{IsChain, IsPlace, array_sizes, AreBelow, counted_from, same_box, counted_home, Group, IsRechunking}
+use Rattle.zarrs_chunk_plan.proofs.Common.{all_chunks_box, array_box, copies_of, IsCopy, Part}
 use Rattle.zarrs_chunks.proofs.Boxes.{same_index}
-use Rattle.zarrs_chunks.proofs.Chains.{same_box}
-use Rattle.zarrs_chunks.proofs.FittingChunks.{counted_home}
-use Rattle.zarrs_chunk_plan.specs.Rechunking.{Goes, Group, IsRechunking, Moves, all_chunks_box, array_box, copies_of}
-use Rattle.zarrs_chunk_plan.specs.Region.{IsCopy}
-use Rattle.zarrs_chunk_parts.specs.declared.part.Part.{Part}
+use Rattle.zarrs_chunk_plan.specs.Rechunking.{Goes, Moves}
 use Rattle.zarrs_chunk_plan.proofs.Rechunkings.{in_array, is_counted, keys_of_copy, moves_elements, some_copy_into}
 
 -- an index has one place in a chunk

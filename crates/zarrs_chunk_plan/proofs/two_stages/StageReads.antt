@@ -1,24 +1,19 @@
 -- How many chunks two stages read by an intermediate array: along each dimension as many as by any that has the same edge there.
-use Rattle.std.proofs.Common.{◌≡◌, ◌↔◌, ◌∙◌, ℕ, zero, suc, ◌+◌, ◌-◌, ◌*◌, ◌<◌, ◌≤◌, List, [], ◌∷◌, get_or, length, map, replicate}
-use Rattle.std.proofs.Common.{Global, Vec, ap, ap₂, arith, mul-le-mul, refl, subst, sym}
-use Rattle.std.proofs.lemmas.List.{length-map, length-replicate}
+use Rattle.zarrs_chunk_plan.proofs.Common.{◌≡◌, ◌↔◌, ◌∙◌, ℕ, zero, suc, ◌+◌, ◌-◌, ◌*◌, ◌<◌, ◌≤◌, List, [], ◌∷◌, get_or, length, map, replicate}
+use Rattle.zarrs_chunk_plan.proofs.Common.{Global, Vec, ap, ap₂, arith, refl, subst, sym, length-map, length-replicate, AllByRecursion, AllZip}
+use Rattle.zarrs_chunk_plan.proofs.Common.{range_with_len, sum, Box, IsBox, IsEmptyBox, IsInside, ends, Dimension, IsChain, array_sizes, AllFit}
+use Rattle.zarrs_chunk_plan.proofs.Common.{greatest, Along, IsEqualEdges, Meets, product, Group, IsRechunking, all_chunks_box, array_box, copies_of}
+use Rattle.zarrs_chunk_plan.proofs.Common.{Edge, AreRanges, counters, counters_from, met, met_along, met_by_range, met_in, IsChoice, IsRow, edge_of}
+use Rattle.zarrs_chunk_plan.proofs.Common.{numbers_of, UsesFirst}
+use Rattle.std.proofs.Common.{mul-le-mul}
 use Rattle.std.proofs.lemmas.List.Elements.{All-contains, All-from_recursion}
-use Rattle.std.specs.List.{AllByRecursion, AllZip, range_with_len, sum}
-use Rattle.zarrs_chunk_base.specs.ArraySubset.{Box, IsBox, IsEmptyBox, IsInside, ends}
-use Rattle.zarrs_chunk_base.specs.Dimension.{Dimension, IsChain, array_sizes, grid_sizes}
-use Rattle.zarrs_chunk_base.specs.Greatest.{AllFit, greatest}
-use Rattle.zarrs_chunk_axes.specs.Along.{Along}
-use Rattle.zarrs_chunk_axes.specs.EqualEdges.{AreEqualEdges, IsEqualEdges}
-use Rattle.zarrs_chunk_parts.specs.Plan.{Meets}
-use Rattle.zarrs_chunk_plan.specs.Counts.{product}
-use Rattle.zarrs_chunk_plan.specs.Rechunking.{Group, IsRechunking, all_chunks_box, array_box, copies_of}
+use Rattle.zarrs_chunk_base.specs.Dimension.{grid_sizes}
+use Rattle.zarrs_chunk_axes.specs.EqualEdges.{AreEqualEdges}
 use Rattle.zarrs_chunk_plan.specs.Stages.{AnyKey, AreStages}
-use Rattle.zarrs_chunk_plan.specs.declared.two_stages.fewest.Edge.{Edge}
 use Rattle.zarrs_chunk_plan.specs.declared.two_stages.stages.Ends.{Ends}
 use Rattle.zarrs_chunk_plan.specs.seen.Ends.{AreOfOneSize, OfEnds}
-use Rattle.zarrs_chunk_plan.specs.seen.Sources.{AreRanges, counters, counters_from, home_from, met, met_along, met_by_range, met_in}
-use Rattle.zarrs_chunk_plan.specs.seen.Stages.{AreRead, AreRows, IsChoice, IsRow, edge_of, numbers_of}
-use Rattle.zarrs_chunk_plan.specs.seen.Used.{UsesFirst}
+use Rattle.zarrs_chunk_plan.specs.seen.Sources.{home_from}
+use Rattle.zarrs_chunk_plan.specs.seen.Stages.{AreRead, AreRows}
 use Rattle.zarrs_chunk_plan.proofs.counts.CountedCopies.{are_taking, copies_many}
 use Rattle.zarrs_chunk_plan.proofs.counts.OneDimension.{Two, two}
 use Rattle.zarrs_chunk_plan.proofs.two_stages.EqualChunks.{are_chains, counted_meet, first_held, one_box, sizes_are}

@@ -1,11 +1,5 @@
-use Rattle.std.proofs.Common.{◌≡◌, ℕ, List, Result, Ok, Err, IfOk, subst, sym}
-use Rattle.std.proofs.lemmas.List.{length-map}
-use Rattle.std.specs.List.{AllByRecursion}
-use Rattle.std.specs.declared.alloc.AllocError.{AllocError}
-use Rattle.zarrs_chunk_base.specs.ArraySubset.{Box, IsInside}
-use Rattle.zarrs_chunk_base.specs.Dimension.{Dimension, IsChain}
-use Rattle.zarrs_chunk_parts.specs.Plan.{Meets}
-use Rattle.zarrs_chunk_plan.specs.Rechunking.{all_chunks_box, array_box}
+use Rattle.zarrs_chunk_plan.proofs.Common.{◌≡◌, ℕ, List, Result, Ok, Err, IfOk, subst, sym, length-map, AllByRecursion, AllocError, Box, IsInside}
+use Rattle.zarrs_chunk_plan.proofs.Common.{Dimension, IsChain, Meets, all_chunks_box, array_box}
 use Rattle.zarrs_chunk_plan.proofs.Rechunkings.{is_counted}
 use Rattle.zarrs_chunk_plan.proofs.boxes_from_zero.all_chunks.Goals as goal
 

@@ -1,8 +1,5 @@
-use Rattle.std.proofs.Common.{◌∙◌, ℕ, ◌≤◌, List, [], ◌∷◌, ap₂, length, replicate, subst, sym, arith}
-use Rattle.std.proofs.lemmas.List.{length-replicate}
-use Rattle.zarrs_chunk_base.specs.ArraySubset.{IsBox, ends}
-use Rattle.zarrs_chunk_base.specs.Greatest.{AllFit, greatest}
-use Rattle.zarrs_chunk_base.proofs.Boxes.{fits}
+use Rattle.zarrs_chunk_plan.proofs.Common.{◌∙◌, ℕ, ◌≤◌, List, [], ◌∷◌, ap₂, length, replicate, subst, sym, arith, length-replicate, IsBox, ends}
+use Rattle.zarrs_chunk_plan.proofs.Common.{AllFit, greatest, fits}
 use Rattle.zarrs_chunk_plan.proofs.boxes_from_zero.box_from_zero.Goals as goal
 
 ends_fit : (shape : List ℕ) → AllFit shape → AllFit (ends (replicate (length shape) 0) shape)

@@ -1,4 +1,4 @@
-use Rattle.std.proofs.lemmas.List.{length-map}
+use Rattle.zarrs_chunk_plan.proofs.Common.{length-map}
 use Rattle.zarrs_chunk_plan.proofs.boxes_from_zero.whole_array.Goals as goal
 
 pub returns-clause-elements : goal.returns-clause-elements

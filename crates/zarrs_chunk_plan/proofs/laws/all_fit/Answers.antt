@@ -1,5 +1,4 @@
-use Rattle.std.proofs.Common.{arith}
-use Rattle.zarrs_chunk_base.proofs.Boxes.{fits}
+use Rattle.zarrs_chunk_plan.proofs.Common.{arith, fits}
 use Rattle.zarrs_chunk_plan.proofs.laws.all_fit.Goals as goal
 
 pub returns : goal.returns

@@ -1,4 +1,4 @@
-use Rattle.std.proofs.Common.{inl, refl, true}
+use Rattle.zarrs_chunk_plan.proofs.Common.{inl, refl, true}
 use Rattle.zarrs_chunk_plan.proofs.resize.ResizeLaws.{change_keys_differ, has_one, is_asked, one_what}
 use Rattle.zarrs_chunk_plan.proofs.laws.each_chunk_has_one_change.Goals as goal
 

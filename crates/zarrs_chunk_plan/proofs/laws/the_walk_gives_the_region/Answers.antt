@@ -1,5 +1,5 @@
+use Rattle.zarrs_chunk_plan.proofs.Common.{AnyChunk}
 use Rattle.zarrs_chunk_plan.proofs.Copied.{all_moves_to_come, copy_of}
-use Rattle.zarrs_chunk_plan.specs.Region.{AnyChunk}
 use Rattle.zarrs_chunk_plan.proofs.laws.the_walk_gives_the_region.Goals as goal
 
 pub returns-clause-to_come : goal.returns-clause-to_come

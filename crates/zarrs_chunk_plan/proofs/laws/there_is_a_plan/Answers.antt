@@ -1,4 +1,4 @@
-use Rattle.zarrs_chunk_plan.specs.Region.{AnyChunk}
+use Rattle.zarrs_chunk_plan.proofs.Common.{AnyChunk}
 use Rattle.zarrs_chunk_plan.proofs.SomePlan.{plan_over}
 use Rattle.zarrs_chunk_plan.proofs.SomeRegions.{have_copy, have_rechunking}
 use Rattle.zarrs_chunk_plan.proofs.laws.there_is_a_plan.Goals as goal

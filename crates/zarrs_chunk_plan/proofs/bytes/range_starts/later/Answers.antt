@@ -1,6 +1,4 @@
-use Rattle.std.proofs.Common.{◌+◌, arith, get_or}
-use Rattle.std.proofs.lemmas.List.Elements.{Contains-get_or}
-use Rattle.zarrs_chunks.proofs.ChunksInBoxes.{made_of}
+use Rattle.zarrs_chunk_plan.proofs.Common.{◌+◌, arith, get_or, Contains-get_or, made_of}
 use Rattle.zarrs_chunk_plan.proofs.bytes.range_starts.later.Goals as goal
 
 pub returns-in-None : goal.returns-in-None

@@ -1,4 +1,4 @@
-use Rattle.std.proofs.Common.{◌≡◌, ◌+◌, map, take}
+use Rattle.zarrs_chunk_plan.proofs.Common.{◌≡◌, ◌+◌, map, take}
 use Rattle.zarrs_chunk_plan.proofs.bytes.range_starts.later.Given as goal
 
 -- these are the sums of the numbers so far

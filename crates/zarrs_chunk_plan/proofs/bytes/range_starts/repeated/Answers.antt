@@ -1,6 +1,4 @@
-use Rattle.std.proofs.Common.{◌≡◌, ◌+◌, ◌*◌, suc, arith, get_or, sym}
-use Rattle.std.proofs.lemmas.List.Elements.{Contains-get_or}
-use Rattle.zarrs_chunks.proofs.ChunksInBoxes.{source_of}
+use Rattle.zarrs_chunk_plan.proofs.Common.{◌≡◌, ◌+◌, ◌*◌, suc, arith, get_or, sym, Contains-get_or, source_of}
 use Rattle.zarrs_chunk_plan.proofs.bytes.RangeStarts.{repeated_more, to_repeated}
 use Rattle.zarrs_chunk_plan.proofs.bytes.range_starts.repeated.Goals as goal
 

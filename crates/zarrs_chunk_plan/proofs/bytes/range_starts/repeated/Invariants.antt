@@ -1,4 +1,4 @@
-use Rattle.std.proofs.Common.{◌≡◌}
+use Rattle.zarrs_chunk_plan.proofs.Common.{◌≡◌}
 use Rattle.zarrs_chunk_plan.specs.Bytes.{repeated}
 use Rattle.zarrs_chunk_plan.proofs.bytes.range_starts.repeated.Given as goal
 

@@ -1,4 +1,4 @@
-use Rattle.std.proofs.Common.{◌≡◌, ◌-◌, suc, arith, sym}
+use Rattle.zarrs_chunk_plan.proofs.Common.{◌≡◌, ◌-◌, suc, arith, sym}
 use Rattle.zarrs_chunk_plan.proofs.bytes.RangeStarts.{inner_of_all, one_more_dimension}
 use Rattle.zarrs_chunk_plan.proofs.bytes.range_starts.some_starts.Goals as goal
 

@@ -1,5 +1,4 @@
-use Rattle.std.proofs.Common.{◌≡◌, drop}
-use Rattle.zarrs_chunk_plan.specs.Bytes.{begins}
+use Rattle.zarrs_chunk_plan.proofs.Common.{◌≡◌, drop, begins}
 use Rattle.zarrs_chunk_plan.proofs.bytes.range_starts.some_starts.Given as goal
 
 -- these are where the ranges along the dimensions begin that were looked at

@@ -1,7 +1,5 @@
-use Rattle.std.proofs.Common.{◌∙◌, ap, arith, Contains, Some, sym}
+use Rattle.zarrs_chunk_plan.proofs.Common.{◌∙◌, ap, arith, Contains, Some, sym, non_zero_u64_get, in_order}
 use Rattle.std.proofs.lemmas.Bool.{true≢false}
-use Rattle.std.specs.Int.NonZero.{non_zero_u64_get}
-use Rattle.zarrs_chunk_plan.specs.Bytes.{in_order}
 use Rattle.zarrs_chunk_plan.proofs.bytes.StoredOrder.{ends_in_order, some_in_order}
 use Rattle.zarrs_chunk_plan.proofs.StridedForms.{counted_form, form_tells, none_where_out, where_empty}
 use Rattle.zarrs_chunk_plan.proofs.bytes.ranges.byte_ranges.Goals as goal

@@ -1,5 +1,4 @@
-use Rattle.std.proofs.Common.{drop}
-use Rattle.std.specs.Int.NonZero.{non_zero_u64_get}
+use Rattle.zarrs_chunk_plan.proofs.Common.{drop, non_zero_u64_get}
 use Rattle.zarrs_chunk_plan.specs.seen.Rows.{HasRanges}
 use Rattle.zarrs_chunk_plan.proofs.bytes.ranges.some_ranges.Given as goal
 

@@ -1,7 +1,5 @@
-use Rattle.std.proofs.Common.{rules, ◌+◌, ◌≤◌, arith, tests}
-use Rattle.std.proofs.lemmas.Iterator.{YieldsList-from_slice, YieldsList-from_zip, cases_from_all}
-use Rattle.std.proofs.lemmas.Iterator.Consumers.{YieldsList-at}
-use Rattle.zarrs_chunk_base.proofs.Boxes.{fits}
+use Rattle.zarrs_chunk_plan.proofs.Common.{rules, ◌+◌, ◌≤◌, arith, tests, YieldsList-from_slice, YieldsList-from_zip, YieldsList-at, fits}
+use Rattle.std.proofs.lemmas.Iterator.{cases_from_all}
 use Rattle.zarrs_chunk_plan.proofs.MovedBoxes.{all_end_within, box_within}
 use Rattle.zarrs_chunk_parts.proofs.Wholes.{tells_all}
 use Rattle.zarrs_chunk_plan.proofs.copy.moved.lies_in.Goals as goal

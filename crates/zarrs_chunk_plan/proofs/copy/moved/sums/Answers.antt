@@ -1,5 +1,4 @@
-use Rattle.std.proofs.Common.{◌≡◌, ◌∙◌, ℕ, List, [], ◌∷◌, ◌++◌, append-nil, ap, length, sym, refl, arith, ⊎_elim}
-use Rattle.zarrs_chunks.specs.Walks.{counted_from}
+use Rattle.zarrs_chunk_plan.proofs.Common.{◌≡◌, ◌∙◌, ℕ, List, [], ◌∷◌, ◌++◌, append-nil, ap, length, sym, refl, arith, ⊎_elim, counted_from}
 use Rattle.zarrs_chunk_plan.proofs.copy.moved.sums.Goals as goal
 
 -- behind the end of either list there are no sums

@@ -1,5 +1,4 @@
-use Rattle.std.proofs.Common.{◌≡◌, ◌++◌}
-use Rattle.zarrs_chunks.specs.Walks.{counted_from}
+use Rattle.zarrs_chunk_plan.proofs.Common.{◌≡◌, ◌++◌, counted_from}
 use Rattle.zarrs_chunk_plan.proofs.copy.moved.sums.Given as goal
 
 -- with the sums of the numbers that are left, these are all

@@ -1,4 +1,4 @@
-use Rattle.std.proofs.Common.{subst}
+use Rattle.zarrs_chunk_plan.proofs.Common.{subst}
 use Rattle.zarrs_chunks.specs.Subsets.{AnswersEmptyCover}
 use Rattle.zarrs_chunk_plan.proofs.BoxCover.{cover_many, cover_names, cover_start, cover_uses, some_dimension}
 use Rattle.zarrs_chunk_plan.proofs.copy.rechunking.chunks_of_array.Goals as goal

@@ -1,4 +1,4 @@
-use Rattle.std.proofs.Common.{◌≡◌, ◌∙◌, ap, length, rules, sym}
+use Rattle.zarrs_chunk_plan.proofs.Common.{◌≡◌, ◌∙◌, ap, length, rules, sym}
 use Rattle.zarrs_chunk_parts.proofs.Overlaps.{later_starts_long}
 use Rattle.zarrs_chunk_plan.proofs.copy.rechunking.targets_of.Goals as goal
 

@@ -1,4 +1,4 @@
-use Rattle.zarrs_chunk_plan.specs.Region.{moved}
+use Rattle.zarrs_chunk_plan.proofs.Common.{moved}
 use Rattle.zarrs_chunk_plan.proofs.counts.CountedCopies.{any_chunk}
 use Rattle.zarrs_chunk_plan.proofs.MovedBoxes.{lies_some}
 use Rattle.zarrs_chunk_plan.proofs.copy.region.copies_of_region.Goals as goal

@@ -1,4 +1,4 @@
-use Rattle.std.proofs.Common.{◌∙◌, sym, true≢false}
+use Rattle.zarrs_chunk_plan.proofs.Common.{◌∙◌, sym, true≢false}
 use Rattle.zarrs_chunk_keys.specs.Decoded.{IsDecoded}
 use Rattle.zarrs_chunk_plan.proofs.copy.MarkedChunks.{read_inside, read_none, read_outside}
 use Rattle.zarrs_chunk_plan.proofs.copy.stored_chunks.chunk_in.Goals as goal

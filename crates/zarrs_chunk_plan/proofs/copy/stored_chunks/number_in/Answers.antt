@@ -1,7 +1,4 @@
-use Rattle.std.proofs.Common.{◌≡◌, ◌∙◌, ap, arith, length}
-use Rattle.std.proofs.lemmas.List.{take_all}
-use Rattle.std.specs.List.{slice_get}
-use Rattle.zarrs_chunks.specs.Walks.{chunks_in}
+use Rattle.zarrs_chunk_plan.proofs.Common.{◌≡◌, ◌∙◌, ap, arith, length, take_all, slice_get, chunks_in}
 use Rattle.zarrs_chunk_plan.proofs.copy.MarkedChunks.{counted_within, length_start, place_more}
 use Rattle.zarrs_chunk_plan.proofs.copy.stored_chunks.number_in.Goals as goal
 

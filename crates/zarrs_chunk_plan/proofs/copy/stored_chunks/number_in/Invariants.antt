@@ -1,5 +1,4 @@
-use Rattle.std.proofs.Common.{◌≡◌, min, take}
-use Rattle.zarrs_chunk_base.specs.Greatest.{greatest}
+use Rattle.zarrs_chunk_plan.proofs.Common.{◌≡◌, min, take, greatest}
 use Rattle.zarrs_chunk_plan.proofs.copy.MarkedChunks.{place_of}
 use Rattle.zarrs_chunk_plan.proofs.copy.stored_chunks.number_in.Given as goal
 

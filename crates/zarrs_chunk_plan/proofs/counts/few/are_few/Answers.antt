@@ -1,5 +1,4 @@
-use Rattle.std.proofs.Common.{◌∙◌, ◌+◌, ◌<◌, ◌≤◌, arith, slice_index_or, sym, true≢false, ⊎_elim}
-use Rattle.std.proofs.lemmas.Bool.{cases_lt}
+use Rattle.zarrs_chunk_plan.proofs.Common.{◌∙◌, ◌+◌, ◌<◌, ◌≤◌, arith, slice_index_or, sym, true≢false, ⊎_elim, cases_lt}
 use Rattle.std.proofs.lemmas.List.Sums.{sum_by-take-le, sum_by_more}
 use Rattle.zarrs_chunk_plan.proofs.counts.few.are_few.Goals as goal
 

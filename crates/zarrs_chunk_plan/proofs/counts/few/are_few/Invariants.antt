@@ -1,5 +1,4 @@
-use Rattle.std.proofs.Common.{◌+◌, ◌≤◌, take}
-use Rattle.std.specs.List.{sum}
+use Rattle.zarrs_chunk_plan.proofs.Common.{◌+◌, ◌≤◌, take, sum}
 use Rattle.zarrs_chunk_plan.proofs.counts.few.are_few.Given as goal
 
 -- no more is used than there are chunks along the dimensions so far

@@ -1,7 +1,6 @@
-use Rattle.std.proofs.Common.{rules, ◌≡◌, map, min, tests}
-use Rattle.std.proofs.lemmas.Iterator.{YieldsList-from_map, YieldsList-from_slice}
+use Rattle.zarrs_chunk_plan.proofs.Common.{rules, ◌≡◌, map, min, tests, YieldsList-from_slice, YieldsList-at}
+use Rattle.std.proofs.lemmas.Iterator.{YieldsList-from_map}
 use Rattle.std.proofs.lemmas.Iterator.Adapters.{items_from_extend}
-use Rattle.std.proofs.lemmas.Iterator.Consumers.{YieldsList-at}
 use Rattle.zarrs_chunk_plan.proofs.counts.of_plans.at_most_one.Goals as goal
 
 pub returns : goal.returns

@@ -1,4 +1,4 @@
-use Rattle.std.proofs.Common.{arith}
+use Rattle.zarrs_chunk_plan.proofs.Common.{arith}
 use Rattle.zarrs_chunk_plan.proofs.counts.MetCovers.{as_many_starts, moved_long}
 use Rattle.zarrs_chunk_plan.proofs.counts.of_plans.copies_along.Goals as goal
 

@@ -1,4 +1,4 @@
-use Rattle.std.proofs.Common.{◌∙◌}
+use Rattle.zarrs_chunk_plan.proofs.Common.{◌∙◌}
 use Rattle.zarrs_chunk_plan.proofs.counts.CountedParts.{of_none, of_plan}
 use Rattle.zarrs_chunk_plan.proofs.counts.of_plans.counts_of_read.Goals as goal
 

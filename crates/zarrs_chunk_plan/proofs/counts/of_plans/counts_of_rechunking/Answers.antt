@@ -1,5 +1,4 @@
-use Rattle.std.proofs.Common.{◌∙◌, sym}
-use Rattle.zarrs_chunk_base.specs.ArraySubset.{IsInside}
+use Rattle.zarrs_chunk_plan.proofs.Common.{◌∙◌, sym, IsInside}
 use Rattle.zarrs_chunk_plan.proofs.counts.CountedCopies.{are_taking, counts_are, held_taken}
 use Rattle.zarrs_chunk_plan.proofs.counts.MetCovers.{as_many_dimensions, some_dimensions}
 use Rattle.zarrs_chunk_plan.proofs.counts.of_plans.counts_of_rechunking.Goals as goal

@@ -1,4 +1,4 @@
-use Rattle.zarrs_chunk_plan.specs.Region.{AnyChunk, moved}
+use Rattle.zarrs_chunk_plan.proofs.Common.{AnyChunk, moved}
 use Rattle.zarrs_chunk_plan.proofs.counts.CountedCopies.{all_taken, any_chunk, counts_are, some_taking}
 use Rattle.zarrs_chunk_plan.proofs.MovedBoxes.{lies_some}
 use Rattle.zarrs_chunk_plan.proofs.counts.of_plans.counts_of_region.Goals as goal

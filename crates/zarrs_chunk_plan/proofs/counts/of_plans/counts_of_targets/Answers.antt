@@ -1,7 +1,4 @@
-use Rattle.std.proofs.Common.{◌∙◌, subst, sym}
-use Rattle.zarrs_chunk_base.specs.ArraySubset.{IsInside}
-use Rattle.zarrs_chunk_plan.specs.Counts.{AreMany, product}
-use Rattle.zarrs_chunk_parts.specs.Plan.{Meets}
+use Rattle.zarrs_chunk_plan.proofs.Common.{◌∙◌, subst, sym, IsInside, AreMany, product, Meets}
 use Rattle.zarrs_chunk_plan.proofs.counts.BoxCounts.{box_many}
 use Rattle.zarrs_chunk_plan.proofs.counts.of_plans.counts_of_targets.Goals as goal
 

@@ -1,5 +1,4 @@
-use Rattle.std.proofs.Common.{arith}
-use Rattle.zarrs_chunk_plan.specs.seen.Used.{HoldsSome}
+use Rattle.zarrs_chunk_plan.proofs.Common.{arith, HoldsSome}
 use Rattle.zarrs_chunk_plan.proofs.counts.HeldRanges.{held_range, size_along}
 use Rattle.zarrs_chunk_plan.proofs.counts.OneDimension.{one}
 use Rattle.zarrs_chunk_plan.proofs.counts.of_plans.elements_along.Goals as goal

@@ -1,10 +1,8 @@
-use Rattle.std.proofs.Common.{◌≡◌, ◌∙◌, ◌<◌, ◌≤◌, ℕ, List, ap, arith, get_or, length, sym}
+use Rattle.zarrs_chunk_plan.proofs.Common.{◌≡◌, ◌∙◌, ◌<◌, ◌≤◌, ℕ, List, ap, arith, get_or, length, sym, IsEmptyBox, lasts, HoldsSome}
 use Rattle.std.proofs.lemmas.List.{get_or_default}
 use Rattle.std.proofs.lemmas.List.Elements.{AllZip-get_or}
-use Rattle.zarrs_chunk_base.specs.ArraySubset.{IsEmptyBox, lasts}
 use Rattle.zarrs_chunk_axes.proofs.OverBox.{length_lasts}
 use Rattle.zarrs_chunks.proofs.Covers.{firsts_before_lasts}
-use Rattle.zarrs_chunk_plan.specs.seen.Used.{HoldsSome}
 use Rattle.zarrs_chunk_plan.proofs.HeldBoxes.{along_each, meets_hold}
 use Rattle.zarrs_chunk_plan.proofs.counts.HeldRanges.{held_box, held_more}
 use Rattle.zarrs_chunk_plan.proofs.counts.MetCovers.{none_held, zeros_empty}

@@ -1,7 +1,6 @@
-use Rattle.std.proofs.Common.{◌≡◌, arith, subst, sym}
+use Rattle.zarrs_chunk_plan.proofs.Common.{◌≡◌, arith, subst, sym, Divides}
 use Rattle.std.proofs.Math.Nat.{dvd-mod_iff}
 use Rattle.std.proofs.lemmas.Nat.Gcd.{dvd-zero, dvd_refl}
-use Rattle.zarrs_chunk_plan.specs.seen.RegularCounts.{Divides}
 use Rattle.zarrs_chunk_plan.proofs.counts.Divisors.{divides_rest}
 use Rattle.zarrs_chunk_plan.proofs.counts.regular_counts.greatest_common_divisor.Goals as goal
 

@@ -1,5 +1,5 @@
+use Rattle.zarrs_chunk_plan.proofs.Common.{Divides}
 use Rattle.std.specs.Prelude.{ℕ, ◌*◌}
-use Rattle.zarrs_chunk_plan.specs.seen.RegularCounts.{Divides}
 use Rattle.zarrs_chunk_plan.proofs.counts.regular_counts.greatest_common_divisor.Given as goal
 
 -- what divides both now divides both numbers, and what divides multiples of these divides those of both now

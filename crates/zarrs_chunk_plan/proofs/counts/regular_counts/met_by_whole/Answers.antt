@@ -1,8 +1,5 @@
-use Rattle.std.specs.Int.NonZero.{non_zero_u64_get}
-use Rattle.std.specs.List.{sum}
-use Rattle.std.proofs.Common.{◌≡◌, arith}
+use Rattle.zarrs_chunk_plan.proofs.Common.{non_zero_u64_get, sum, ◌≡◌, arith, all_meeting}
 use Rattle.std.proofs.lemmas.Grind.{div_ceil_times}
-use Rattle.zarrs_chunk_plan.specs.seen.RegularCounts.{all_meeting}
 use Rattle.zarrs_chunk_plan.proofs.counts.CountsTold.{told}
 use Rattle.zarrs_chunk_plan.proofs.counts.RegularCounts.{IsCeiling, one_ceiling}
 use Rattle.zarrs_chunk_plan.proofs.counts.regular_counts.met_by_whole.Goals as goal

@@ -1,4 +1,4 @@
-use Rattle.std.proofs.Common.{arith}
+use Rattle.zarrs_chunk_plan.proofs.Common.{arith}
 use Rattle.zarrs_chunk_plan.proofs.counts.OneDimension.{sided}
 use Rattle.zarrs_chunk_plan.proofs.counts.RegularDimensions.{counted}
 use Rattle.zarrs_chunk_plan.proofs.counts.sources.sources_along.Goals as goal

@@ -1,9 +1,6 @@
-use Rattle.std.proofs.Common.{◌≡◌, ◌∙◌, ◌+◌, ◌<◌, ◌++◌, ◌∷◌, [], ℕ, List, ap, ap₂, fold, length, map, max, slice_index_or, sym, take, arith, true≢false}
-use Rattle.std.proofs.lemmas.List.{map-append, take_all, take_more}
-use Rattle.std.specs.List.{sum}
-use Rattle.zarrs_chunk_base.specs.ArraySubset.{IsEmptyBox}
-use Rattle.zarrs_chunk_plan.specs.Counts.{product}
-use Rattle.zarrs_chunk_plan.specs.seen.Sources.{AreSumAndMost, counters, met_in}
+use Rattle.zarrs_chunk_plan.proofs.Common.{◌≡◌, ◌∙◌, ◌+◌, ◌<◌, ◌++◌, ◌∷◌, [], ℕ, List, ap, ap₂, fold, length, map, max, slice_index_or, sym, take}
+use Rattle.zarrs_chunk_plan.proofs.Common.{arith, true≢false, map-append, take_all, take_more, sum, IsEmptyBox, product, AreSumAndMost, counters}
+use Rattle.zarrs_chunk_plan.proofs.Common.{met_in}
 use Rattle.zarrs_chunk_plan.proofs.counts.BoxCounts.{product_of_none}
 use Rattle.zarrs_chunk_plan.proofs.counts.MetCovers.{as_many_counters, as_many_starts, moved_long, ranges_along, row_along}
 use Rattle.zarrs_chunk_plan.proofs.counts.Products.{greatest_of_products, met_by_all, of_none, sum_of_products}

@@ -1,6 +1,4 @@
-use Rattle.std.proofs.Common.{◌≡◌, fold, map, max, take}
-use Rattle.std.specs.List.{sum}
-use Rattle.zarrs_chunk_plan.specs.seen.Sources.{counters, met_in}
+use Rattle.zarrs_chunk_plan.proofs.Common.{◌≡◌, fold, map, max, take, sum, counters, met_in}
 use Rattle.zarrs_chunk_plan.proofs.counts.sources.sources_along_each.Given as goal
 
 -- the dimensions so far are counted

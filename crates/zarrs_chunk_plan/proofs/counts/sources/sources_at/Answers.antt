@@ -1,5 +1,4 @@
-use Rattle.std.proofs.Common.{◌≡◌, ◌+◌, arith}
-use Rattle.zarrs_chunk_axes.specs.Along.{IsRange}
+use Rattle.zarrs_chunk_plan.proofs.Common.{◌≡◌, ◌+◌, arith, IsRange}
 use Rattle.zarrs_chunk_plan.proofs.counts.OneDimension.{one_met, sided}
 use Rattle.zarrs_chunk_plan.proofs.counts.sources.sources_at.Goals as goal
 

@@ -1,5 +1,4 @@
-use Rattle.std.proofs.Common.{◌≡◌, ◌∙◌, ap₂, arith, max, refl, subst, sym}
-use Rattle.zarrs_chunk_plan.specs.seen.Sources.{AreSumAndMost, met_along, met_by_range}
+use Rattle.zarrs_chunk_plan.proofs.Common.{◌≡◌, ◌∙◌, ap₂, arith, max, refl, subst, sym, AreSumAndMost, met_along, met_by_range}
 use Rattle.zarrs_chunk_plan.proofs.counts.OneDimension.{sided}
 use Rattle.zarrs_chunk_plan.proofs.counts.RegularCounts.{greater_of}
 use Rattle.zarrs_chunk_plan.proofs.counts.Written.{most_more, sum_fits, sum_more}

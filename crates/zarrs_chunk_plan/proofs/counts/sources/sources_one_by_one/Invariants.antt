@@ -1,4 +1,5 @@
-use Rattle.zarrs_chunk_plan.specs.seen.Sources.{AreSumAndMost, OfSide, met_by_range}
+use Rattle.zarrs_chunk_plan.proofs.Common.{AreSumAndMost, met_by_range}
+use Rattle.zarrs_chunk_plan.specs.seen.Sources.{OfSide}
 use Rattle.zarrs_chunk_plan.proofs.counts.sources.sources_one_by_one.Given as goal
 
 -- the chunks of the target so far are counted

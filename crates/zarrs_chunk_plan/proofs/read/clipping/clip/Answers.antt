@@ -1,4 +1,4 @@
-use Rattle.std.proofs.Common.{◌≡◌, length, rules}
+use Rattle.zarrs_chunk_plan.proofs.Common.{◌≡◌, length, rules}
 use Rattle.zarrs_chunk_plan.proofs.Clipped.{is_clipped, is_covered}
 use Rattle.zarrs_chunk_plan.proofs.read.clipping.clip.Goals as goal
 

@@ -1,7 +1,4 @@
-use Rattle.std.proofs.Common.{◌≡◌, ◌+◌, ◌-◌, ◌≤◌, drop, subst, sym, take, arith}
-use Rattle.std.specs.List.{AllZip}
-use Rattle.zarrs_chunks.specs.Walks.{chunks_in}
-use Rattle.zarrs_chunk_parts.specs.Plan.{IsPart, Meets}
+use Rattle.zarrs_chunk_plan.proofs.Common.{◌≡◌, ◌+◌, ◌-◌, ◌≤◌, drop, subst, sym, take, arith, AllZip, chunks_in, IsPart, Meets}
 use Rattle.zarrs_chunk_plan.proofs.Taken.{of_place, one_more}
 use Rattle.zarrs_chunk_plan.proofs.read.numbered_parts.parts_between.Goals as goal
 

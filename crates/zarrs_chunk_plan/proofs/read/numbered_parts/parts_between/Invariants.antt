@@ -1,7 +1,4 @@
-use Rattle.std.proofs.Common.{◌-◌, ◌≤◌, drop, max, take}
-use Rattle.std.specs.List.{AllZip}
-use Rattle.zarrs_chunks.specs.Walks.{chunks_in}
-use Rattle.zarrs_chunk_parts.specs.Plan.{IsPart}
+use Rattle.zarrs_chunk_plan.proofs.Common.{◌-◌, ◌≤◌, drop, max, take, AllZip, chunks_in, IsPart}
 use Rattle.zarrs_chunk_plan.proofs.read.numbered_parts.parts_between.Given as goal
 
 -- the parts so far are those of the chunks so far

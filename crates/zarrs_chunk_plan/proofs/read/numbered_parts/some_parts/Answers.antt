@@ -1,7 +1,4 @@
-use Rattle.std.proofs.Common.{◌≡◌, ◌∙◌, ◌+◌, [], ap, length, min, arith}
-use Rattle.zarrs_chunk_base.specs.Greatest.{greatest}
-use Rattle.zarrs_chunk_axes.specs.RowMajor.{row_major}
-use Rattle.zarrs_chunks.specs.Walks.{chunks_in}
+use Rattle.zarrs_chunk_plan.proofs.Common.{◌≡◌, ◌∙◌, ◌+◌, [], ap, length, min, arith, greatest, row_major, chunks_in}
 use Rattle.zarrs_chunk_plan.specs.declared.read.numbered_parts.SomeParts.{SomeParts}
 use Rattle.zarrs_chunk_plan.proofs.Plans.{covered_meet, none_in_zeros}
 use Rattle.zarrs_chunk_plan.proofs.Taken.{none_of_plan, some_of_plan}

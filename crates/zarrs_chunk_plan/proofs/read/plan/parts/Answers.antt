@@ -1,8 +1,5 @@
-use Rattle.std.proofs.Common.{◌∙◌, ap, subst, sym}
-use Rattle.std.specs.List.{AllByRecursion}
-use Rattle.zarrs_chunk_parts.specs.Plan.{Meets}
+use Rattle.zarrs_chunk_plan.proofs.Common.{◌∙◌, ap, subst, sym, AllByRecursion, Meets, chunks_in}
 use Rattle.zarrs_chunk_plan.proofs.Plans.{covered_meet, none_in_zeros}
-use Rattle.zarrs_chunks.specs.Walks.{chunks_in}
 use Rattle.zarrs_chunk_plan.proofs.read.plan.parts.Goals as goal
 
 pub returns-clause-empty : goal.returns-clause-empty

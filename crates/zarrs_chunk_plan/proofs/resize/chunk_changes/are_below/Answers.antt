@@ -1,8 +1,7 @@
-use Rattle.std.proofs.Common.{rules, ◌<◌, length, tests, sym, ◌∙◌}
+use Rattle.zarrs_chunk_plan.proofs.Common.{rules, ◌<◌, length, tests, sym, ◌∙◌, YieldsList-from_slice, YieldsList-from_zip, length_below}
 use Rattle.std.proofs.lemmas.Bool.{ne_eqb, true≢false}
-use Rattle.std.proofs.lemmas.Iterator.{YieldsList-from_slice, YieldsList-from_zip, cases_from_all}
+use Rattle.std.proofs.lemmas.Iterator.{cases_from_all}
 use Rattle.zarrs_chunk_parts.proofs.Wholes.{tells_all}
-use Rattle.zarrs_chunks.proofs.ChunksInBoxes.{length_below}
 use Rattle.zarrs_chunk_plan.proofs.resize.ChunksChanged.{all_below}
 use Rattle.zarrs_chunk_plan.proofs.resize.chunk_changes.are_below.Goals as goal
 

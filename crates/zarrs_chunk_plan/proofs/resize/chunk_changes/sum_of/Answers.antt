@@ -1,5 +1,4 @@
-use Rattle.std.proofs.Common.{◌≡◌, ◌+◌, ◌∙◌, ap, sym, arith}
-use Rattle.zarrs_chunk_plan.specs.Counted.{counted}
+use Rattle.zarrs_chunk_plan.proofs.Common.{◌≡◌, ◌+◌, ◌∙◌, ap, sym, arith, counted}
 use Rattle.zarrs_chunk_plan.proofs.resize.ChunksChanged.{counted_is, not_counted, sum_counted}
 use Rattle.zarrs_chunk_plan.proofs.resize.chunk_changes.sum_of.Goals as goal
 

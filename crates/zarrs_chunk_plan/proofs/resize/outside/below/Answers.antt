@@ -1,7 +1,4 @@
-use Rattle.std.proofs.Common.{◌∙◌, ◌++◌, ap}
-use Rattle.zarrs_chunks.specs.Walks.{chunks_in}
-use Rattle.zarrs_chunks.proofs.ChunksInBoxes.{chunks_once}
-use Rattle.zarrs_chunk_plan.specs.seen.Outside.{chunks_of_boxes}
+use Rattle.zarrs_chunk_plan.proofs.Common.{◌∙◌, ◌++◌, ap, chunks_in, chunks_once, chunks_of_boxes}
 use Rattle.zarrs_chunk_plan.proofs.resize.OutsideBoxes.{from_zero_below}
 use Rattle.zarrs_chunk_plan.proofs.resize.outside.below.Goals as goal
 

@@ -1,7 +1,6 @@
-use Rattle.std.proofs.Common.{rules, zip, ◌≡◌, map, min, tests}
-use Rattle.std.proofs.lemmas.Iterator.{YieldsList-from_map, YieldsList-from_slice, YieldsList-from_zip}
+use Rattle.zarrs_chunk_plan.proofs.Common.{rules, zip, ◌≡◌, map, min, tests, YieldsList-from_slice, YieldsList-from_zip, YieldsList-at}
+use Rattle.std.proofs.lemmas.Iterator.{YieldsList-from_map}
 use Rattle.std.proofs.lemmas.Iterator.Adapters.{items_from_extend}
-use Rattle.std.proofs.lemmas.Iterator.Consumers.{YieldsList-at}
 use Rattle.zarrs_chunk_plan.proofs.resize.outside.lesser.Goals as goal
 
 pub returns : goal.returns

@@ -1,5 +1,4 @@
-use Rattle.std.proofs.Common.{◌≡◌, ◌-◌, suc, arith, subst}
-use Rattle.zarrs_chunk_plan.specs.seen.Outside.{lesser}
+use Rattle.zarrs_chunk_plan.proofs.Common.{◌≡◌, ◌-◌, suc, arith, subst, lesser}
 use Rattle.zarrs_chunk_plan.proofs.resize.OutsideBoxes.{HasGrown, are_outside, grown_more, not_grown}
 use Rattle.zarrs_chunk_plan.proofs.resize.outside.outside.Goals as goal
 

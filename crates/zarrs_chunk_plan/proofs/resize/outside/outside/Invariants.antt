@@ -1,4 +1,4 @@
-use Rattle.zarrs_chunk_plan.specs.seen.Outside.{lesser}
+use Rattle.zarrs_chunk_plan.proofs.Common.{lesser}
 use Rattle.zarrs_chunk_plan.proofs.resize.OutsideBoxes.{HasGrown}
 use Rattle.zarrs_chunk_plan.proofs.resize.outside.outside.Given as goal
 

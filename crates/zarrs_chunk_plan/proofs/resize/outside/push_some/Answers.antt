@@ -1,5 +1,4 @@
-use Rattle.std.proofs.Common.{◌∙◌, ap}
-use Rattle.zarrs_chunk_plan.specs.seen.Outside.{chunks_of_boxes}
+use Rattle.zarrs_chunk_plan.proofs.Common.{◌∙◌, ap, chunks_of_boxes}
 use Rattle.zarrs_chunk_plan.proofs.resize.OutsideBoxes.{no_box_more, one_box_more}
 use Rattle.zarrs_chunk_plan.proofs.resize.outside.push_some.Goals as goal
 

@@ -1,4 +1,4 @@
-use Rattle.std.proofs.Common.{arith}
+use Rattle.zarrs_chunk_plan.proofs.Common.{arith}
 use Rattle.zarrs_chunk_plan.proofs.resize.Kept.{kept_are}
 use Rattle.zarrs_chunk_plan.proofs.resize.used.kept_along.Goals as goal
 

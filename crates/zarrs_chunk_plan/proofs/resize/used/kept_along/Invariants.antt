@@ -1,4 +1,4 @@
-use Rattle.std.proofs.Common.{◌≡◌, ◌<◌, ◌≤◌, ℕ, length, min, slice_index_or}
+use Rattle.zarrs_chunk_plan.proofs.Common.{◌≡◌, ◌<◌, ◌≤◌, ℕ, length, min, slice_index_or}
 use Rattle.zarrs_chunk_plan.specs.seen.Used.{KeepsAlong}
 use Rattle.zarrs_chunk_plan.proofs.resize.used.kept_along.Given as goal
 

@@ -1,4 +1,4 @@
-use Rattle.std.proofs.Common.{rules, ◌-◌, inl, inr, refl}
+use Rattle.zarrs_chunk_plan.proofs.Common.{rules, ◌-◌, inl, inr, refl}
 use Rattle.zarrs_chunk_plan.proofs.resize.Kept.{keeps_along}
 use Rattle.zarrs_chunk_plan.proofs.resize.used.kept_in.Goals as goal
 

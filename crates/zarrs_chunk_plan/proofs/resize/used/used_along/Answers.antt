@@ -1,7 +1,5 @@
-use Rattle.std.proofs.Common.{◌≡◌, ◌∙◌, length, ap, subst, sym}
-use Rattle.std.proofs.lemmas.List.{length-replicate}
+use Rattle.zarrs_chunk_plan.proofs.Common.{◌≡◌, ◌∙◌, length, ap, subst, sym, length-replicate, AreWithin}
 use Rattle.zarrs_chunk_plan.proofs.BoxCover.{below_from_zero}
-use Rattle.zarrs_chunk_base.specs.ArraySubset.{AreWithin}
 use Rattle.zarrs_chunk_plan.proofs.resize.used.used_along.Goals as goal
 
 pub returns-clause-used : goal.returns-clause-used

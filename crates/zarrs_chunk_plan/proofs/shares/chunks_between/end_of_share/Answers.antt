@@ -1,6 +1,4 @@
-use Rattle.std.proofs.Common.{◌≡◌, ◌+◌, length, subst, sym, arith}
-use Rattle.zarrs_chunk_axes.specs.InBounds.{AreBelow}
-use Rattle.zarrs_chunk_axes.specs.RowMajor.{row_major}
+use Rattle.zarrs_chunk_plan.proofs.Common.{◌≡◌, ◌+◌, length, subst, sym, arith, AreBelow, row_major}
 use Rattle.zarrs_chunk_plan.proofs.shares.BeforeShares.{all_before}
 use Rattle.zarrs_chunk_plan.proofs.shares.Ranks.{digits_are}
 use Rattle.zarrs_chunk_plan.proofs.shares.chunks_between.end_of_share.Goals as goal

@@ -1,6 +1,4 @@
-use Rattle.std.proofs.Common.{◌≡◌, Some, subst}
-use Rattle.std.specs.List.{slice_get}
-use Rattle.zarrs_chunks.specs.Walks.{chunks_in}
+use Rattle.zarrs_chunk_plan.proofs.Common.{◌≡◌, Some, subst, slice_get, chunks_in}
 use Rattle.zarrs_chunk_plan.proofs.shares.FromNumber.{at_number}
 use Rattle.zarrs_chunk_plan.proofs.shares.chunks_between.list_at.Goals as goal
 

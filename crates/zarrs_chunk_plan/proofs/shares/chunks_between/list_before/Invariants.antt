@@ -1,4 +1,4 @@
-use Rattle.std.proofs.Common.{◌≡◌, ◌<◌, ◌++◌, drop}
+use Rattle.zarrs_chunk_plan.proofs.Common.{◌≡◌, ◌<◌, ◌++◌, drop}
 use Rattle.zarrs_chunk_plan.specs.seen.Between.{digits}
 use Rattle.zarrs_chunk_plan.proofs.shares.chunks_between.list_before.Given as goal
 

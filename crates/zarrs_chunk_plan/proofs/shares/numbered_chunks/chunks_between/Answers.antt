@@ -1,6 +1,4 @@
-use Rattle.std.proofs.Common.{◌≡◌, ◌+◌, ◌-◌, ◌≤◌, drop, refl, subst, sym, take, arith}
-use Rattle.std.specs.List.{AllZip}
-use Rattle.zarrs_chunks.specs.Walks.{chunks_in}
+use Rattle.zarrs_chunk_plan.proofs.Common.{◌≡◌, ◌+◌, ◌-◌, ◌≤◌, drop, refl, subst, sym, take, arith, AllZip, chunks_in}
 use Rattle.zarrs_chunk_plan.proofs.Taken.{one_more}
 use Rattle.zarrs_chunk_plan.proofs.shares.numbered_chunks.chunks_between.Goals as goal
 

@@ -1,6 +1,4 @@
-use Rattle.std.proofs.Common.{◌≡◌, ◌-◌, ◌≤◌, drop, max, take}
-use Rattle.std.specs.List.{AllZip}
-use Rattle.zarrs_chunks.specs.Walks.{chunks_in}
+use Rattle.zarrs_chunk_plan.proofs.Common.{◌≡◌, ◌-◌, ◌≤◌, drop, max, take, AllZip, chunks_in}
 use Rattle.zarrs_chunk_plan.proofs.shares.numbered_chunks.chunks_between.Given as goal
 
 -- the chunks so far are those with the numbers so far

@@ -1,4 +1,4 @@
-use Rattle.std.proofs.Common.{◌∙◌}
+use Rattle.zarrs_chunk_plan.proofs.Common.{◌∙◌}
 use Rattle.zarrs_chunk_plan.proofs.ByNumber.{counted_most}
 use Rattle.zarrs_chunk_plan.proofs.shares.numbered_chunks.count_below.Goals as goal
 

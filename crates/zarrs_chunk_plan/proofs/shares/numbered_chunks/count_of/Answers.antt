@@ -1,5 +1,4 @@
-use Rattle.std.proofs.Common.{length, sym, arith}
-use Rattle.zarrs_chunk_axes.specs.RowMajor.{row_major}
+use Rattle.zarrs_chunk_plan.proofs.Common.{length, sym, arith, row_major}
 use Rattle.zarrs_chunk_plan.proofs.ByNumber.{counted_none, counted_some}
 use Rattle.zarrs_chunk_plan.proofs.shares.numbered_chunks.count_of.Goals as goal
 

@@ -1,7 +1,5 @@
-use Rattle.std.proofs.Common.{◌≡◌, ◌∙◌, ◌-◌, ◌^◌, length, refl, arith}
-use Rattle.std.proofs.Math.Seq.{take-length}
+use Rattle.zarrs_chunk_plan.proofs.Common.{◌≡◌, ◌∙◌, ◌-◌, ◌^◌, length, refl, arith, take-length, row_major}
 use Rattle.zarrs_chunk_plan.proofs.ByNumber.{counted_more}
-use Rattle.zarrs_chunk_axes.specs.RowMajor.{row_major}
 use Rattle.zarrs_chunk_plan.proofs.shares.numbered_chunks.long_count.Goals as goal
 
 pub loop-size-init : goal.loop-size-init

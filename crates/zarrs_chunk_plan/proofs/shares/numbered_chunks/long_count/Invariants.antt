@@ -1,5 +1,4 @@
-use Rattle.std.proofs.Common.{◌≡◌, ◌-◌, ◌^◌, length, min, take}
-use Rattle.zarrs_chunk_axes.specs.RowMajor.{row_major}
+use Rattle.zarrs_chunk_plan.proofs.Common.{◌≡◌, ◌-◌, ◌^◌, length, min, take, row_major}
 use Rattle.zarrs_chunk_plan.proofs.shares.numbered_chunks.long_count.Given as goal
 
 -- so many lists are below the sizes so far, as far as 128 bits count them

@@ -1,4 +1,4 @@
-use Rattle.std.proofs.Common.{◌≡◌, ◌+◌, ◌-◌, ◌<◌, ◌%◌, slice_index_or, subst, arith}
+use Rattle.zarrs_chunk_plan.proofs.Common.{◌≡◌, ◌+◌, ◌-◌, ◌<◌, ◌%◌, slice_index_or, subst, arith}
 use Rattle.zarrs_chunk_plan.proofs.ByNumber.{IsNumbered, as_many, numbered_all, numbered_more, numbered_none, some_size, sum_fits}
 use Rattle.zarrs_chunk_plan.proofs.shares.numbered_chunks.write_chunk.Goals as goal
 

@@ -1,7 +1,4 @@
-use Rattle.std.proofs.Common.{◌<◌, ◌∷◌, [], Contains, ap, arith, sym, take}
-use Rattle.std.proofs.lemmas.List.{take_all, take_more}
-use Rattle.zarrs_chunk_plan.specs.declared.two_stages.fewest.Edge.{Edge}
-use Rattle.zarrs_chunk_plan.specs.seen.Stages.{edge_of, rows_of}
+use Rattle.zarrs_chunk_plan.proofs.Common.{◌<◌, ◌∷◌, [], Contains, ap, arith, sym, take, take_all, take_more, Edge, edge_of, rows_of}
 use Rattle.zarrs_chunk_plan.proofs.two_stages.Choices.{below_next, is_with, of_both, of_none, of_one, only}
 use Rattle.zarrs_chunk_plan.proofs.two_stages.fewest.+fewest.Goals as goal
 

@@ -1,5 +1,4 @@
-use Rattle.std.proofs.Common.{◌∷◌, length, take}
-use Rattle.zarrs_chunk_plan.specs.seen.Stages.{FindsFewest, rows_of}
+use Rattle.zarrs_chunk_plan.proofs.Common.{◌∷◌, length, take, FindsFewest, rows_of}
 use Rattle.zarrs_chunk_plan.proofs.two_stages.fewest.+fewest.Given as goal
 
 -- one row less is left

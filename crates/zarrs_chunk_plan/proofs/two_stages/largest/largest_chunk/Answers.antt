@@ -1,10 +1,6 @@
-use Rattle.std.proofs.Common.{◌∙◌, ◌+◌, ap, arith, get_or, subst, sym, true≢false, ⊎_elim}
+use Rattle.zarrs_chunk_plan.proofs.Common.{◌∙◌, ◌+◌, ap, arith, get_or, subst, sym, true≢false, ⊎_elim, AllZip-long, InEach, Along, array_box}
+use Rattle.zarrs_chunk_plan.proofs.Common.{IsLongest, UsesFirst}
 use Rattle.std.proofs.lemmas.List.{length_push}
-use Rattle.std.proofs.lemmas.Slice.Zip.{AllZip-long}
-use Rattle.zarrs_chunk_base.specs.Dimension.{InEach}
-use Rattle.zarrs_chunk_axes.specs.Along.{Along}
-use Rattle.zarrs_chunk_plan.specs.Rechunking.{array_box}
-use Rattle.zarrs_chunk_plan.specs.seen.Used.{IsLongest, UsesFirst}
 use Rattle.zarrs_chunk_plan.proofs.HeldBoxes.{along_each, some_chunks}
 use Rattle.zarrs_chunk_plan.proofs.two_stages.LargestChunks.{in_each, is_largest, largest_of_none, pushed}
 use Rattle.zarrs_chunk_plan.proofs.Plans.{empty_or_some}

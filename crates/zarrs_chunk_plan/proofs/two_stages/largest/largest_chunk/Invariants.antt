@@ -1,6 +1,4 @@
-use Rattle.std.proofs.Common.{◌≡◌, ◌<◌, ℕ, length, slice_index_or}
-use Rattle.zarrs_chunk_axes.specs.Along.{Along}
-use Rattle.zarrs_chunk_plan.specs.seen.Used.{IsLongest}
+use Rattle.zarrs_chunk_plan.proofs.Common.{◌≡◌, ◌<◌, ℕ, length, slice_index_or, Along, IsLongest}
 use Rattle.zarrs_chunk_plan.proofs.two_stages.largest.largest_chunk.Given as goal
 
 -- so it is along the dimensions so far

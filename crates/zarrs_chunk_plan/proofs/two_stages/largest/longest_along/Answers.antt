@@ -1,6 +1,4 @@
-use Rattle.std.specs.Int.NonZero.{non_zero_u64_get}
-use Rattle.std.proofs.Common.{arith}
-use Rattle.zarrs_chunk_plan.specs.seen.Used.{UsesFirst}
+use Rattle.zarrs_chunk_plan.proofs.Common.{non_zero_u64_get, arith, UsesFirst}
 use Rattle.zarrs_chunk_plan.proofs.two_stages.LargestChunks.{longest_of_more, longest_of_none, longest_of_regular}
 use Rattle.zarrs_chunk_plan.proofs.counts.OneDimension.{one}
 use Rattle.zarrs_chunk_plan.proofs.counts.RegularCounts.{greater_of}

@@ -1,5 +1,4 @@
-use Rattle.zarrs_chunk_axes.specs.Along.{Along}
-use Rattle.zarrs_chunk_plan.specs.seen.Used.{IsLongest}
+use Rattle.zarrs_chunk_plan.proofs.Common.{Along, IsLongest}
 use Rattle.zarrs_chunk_plan.proofs.two_stages.largest.longest_along.Given as goal
 
 -- it is the longest one so far

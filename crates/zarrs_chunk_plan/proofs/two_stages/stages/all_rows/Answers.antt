@@ -1,13 +1,7 @@
-use Rattle.std.proofs.Common.{Global, Vec, ◌∙◌, ◌<◌, ◌≤◌, ◌++◌, ◌∷◌, [], ℕ, ap, ap₂, arith, get_or, length, map, refl, subst, sym, take, ⊎_elim}
-use Rattle.std.proofs.lemmas.Bool.{cases_lt}
-use Rattle.std.proofs.lemmas.List.{length-map, length-take-le, map-append, take_all, take_more}
-use Rattle.std.proofs.lemmas.Slice.Zip.{AllZip-long}
-use Rattle.zarrs_chunk_base.specs.Greatest.{AllFit}
-use Rattle.zarrs_chunk_base.specs.ArraySubset.{ends}
-use Rattle.zarrs_chunk_axes.specs.Along.{Along}
-use Rattle.zarrs_chunk_plan.specs.declared.two_stages.fewest.Edge.{Edge}
-use Rattle.zarrs_chunk_plan.specs.seen.Stages.{IsRow, edge_of, numbers_of, rows_of}
-use Rattle.zarrs_chunk_plan.specs.seen.Used.{UsesFirst}
+use Rattle.zarrs_chunk_plan.proofs.Common.{Global, Vec, ◌∙◌, ◌<◌, ◌≤◌, ◌++◌, ◌∷◌, [], ℕ, ap, ap₂, arith, get_or, length, map, refl, subst, sym, take}
+use Rattle.zarrs_chunk_plan.proofs.Common.{⊎_elim, cases_lt, length-map, map-append, take_all, take_more, AllZip-long, AllFit, ends, Along, Edge}
+use Rattle.zarrs_chunk_plan.proofs.Common.{IsRow, edge_of, numbers_of, rows_of, UsesFirst}
+use Rattle.std.proofs.lemmas.List.{length-take-le}
 use Rattle.zarrs_chunk_plan.proofs.HeldBoxes.{some_chunks}
 use Rattle.zarrs_chunk_plan.proofs.two_stages.LargestChunks.{pushed}
 use Rattle.zarrs_chunk_plan.proofs.two_stages.StageReads.{each_row_at, ends_at, length_of, rows_are}

@@ -1,6 +1,4 @@
-use Rattle.std.proofs.Common.{◌≡◌, ◌<◌, [], ℕ, map, slice_index_or, take}
-use Rattle.zarrs_chunk_axes.specs.Along.{Along}
-use Rattle.zarrs_chunk_plan.specs.seen.Stages.{IsRow, edge_of, numbers_of, rows_of}
+use Rattle.zarrs_chunk_plan.proofs.Common.{◌≡◌, ◌<◌, [], ℕ, map, slice_index_or, take, Along, IsRow, edge_of, numbers_of, rows_of}
 use Rattle.zarrs_chunk_plan.proofs.two_stages.stages.all_rows.Given as goal
 
 -- the rows of the dimensions so far

@@ -1,6 +1,4 @@
-use Rattle.std.specs.Int.NonZero.{non_zero_u64_get}
-use Rattle.std.proofs.Common.{◌<◌, arith}
-use Rattle.zarrs_chunk_plan.specs.seen.Sources.{AreRanges, AreSumAndMost, met_by_range}
+use Rattle.zarrs_chunk_plan.proofs.Common.{non_zero_u64_get, ◌<◌, arith, AreRanges, AreSumAndMost, met_by_range}
 use Rattle.zarrs_chunk_plan.proofs.two_stages.StageReads.{ended, from_ranges, into_ranges, is_read, only_dimension}
 use Rattle.zarrs_chunk_plan.proofs.two_stages.stages.reads_along.Goals as goal
 

@@ -1,7 +1,4 @@
-use Rattle.std.proofs.Common.{◌∙◌, ◌<◌, ◌++◌, ◌∷◌, [], ap₂, arith, refl, sym}
-use Rattle.std.proofs.lemmas.List.{map-append, take_all, take_more}
-use Rattle.zarrs_chunk_plan.specs.declared.two_stages.fewest.Edge.{Edge}
-use Rattle.zarrs_chunk_plan.specs.seen.Stages.{IsRow, edge_of}
+use Rattle.zarrs_chunk_plan.proofs.Common.{◌∙◌, ◌<◌, ◌++◌, ◌∷◌, [], ap₂, arith, refl, sym, map-append, take_all, take_more, Edge, IsRow, edge_of}
 use Rattle.std.proofs.ByRecursion.{All-get_or, All-push}
 use Rattle.zarrs_chunk_plan.proofs.two_stages.StageReads.{ended}
 use Rattle.zarrs_chunk_plan.proofs.two_stages.stages.row_along.Goals as goal

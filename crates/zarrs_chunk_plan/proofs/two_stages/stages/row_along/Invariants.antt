@@ -1,6 +1,5 @@
-use Rattle.std.proofs.Common.{◌≡◌, ◌<◌, map, take}
+use Rattle.zarrs_chunk_plan.proofs.Common.{◌≡◌, ◌<◌, map, take, IsRow, edge_of}
 use Rattle.zarrs_chunk_plan.specs.seen.Ends.{OfEnds}
-use Rattle.zarrs_chunk_plan.specs.seen.Stages.{IsRow, edge_of}
 use Rattle.zarrs_chunk_plan.proofs.two_stages.stages.row_along.Given as goal
 
 -- the row has the edges so far, each with what is read by it

@@ -1,7 +1,4 @@
-use Rattle.std.proofs.Common.{Global, Vec, ℕ, ◌∙◌, ◌-◌, ap, ap₂, arith, length, max, sym}
-use Rattle.std.proofs.lemmas.List.{length-map}
-use Rattle.zarrs_chunk_base.specs.Dimension.{Dimension, array_sizes}
-use Rattle.zarrs_chunk_plan.specs.seen.Stages.{rows_of}
+use Rattle.zarrs_chunk_plan.proofs.Common.{Global, Vec, ℕ, ◌∙◌, ◌-◌, ap, ap₂, arith, length, max, sym, length-map, Dimension, array_sizes, rows_of}
 use Rattle.zarrs_chunk_plan.proofs.two_stages.ChosenShapes.{finds, shape_long, largest_long, largest_positive, rows_ascend}
 use Rattle.zarrs_chunk_plan.proofs.two_stages.EdgesTried.{all_ascend, all_positive, tried_long}
 use Rattle.zarrs_chunk_plan.proofs.two_stages.StageReads.{length_of}

@@ -1,9 +1,5 @@
-use Rattle.std.proofs.Common.{Global, List, Vec, ◌≡◌, ◌∙◌, ◌++◌, ◌∷◌, [], ℕ, ap, length, map, min, refl, sym, take}
-use Rattle.std.proofs.lemmas.List.{take_all, take_more}
-use Rattle.zarrs_chunk_base.specs.Greatest.{greatest}
-use Rattle.zarrs_chunk_plan.specs.Counts.{product}
-use Rattle.zarrs_chunk_plan.specs.Stages.{shapes_tried}
-use Rattle.zarrs_chunk_plan.specs.seen.Stages.{numbers_of}
+use Rattle.zarrs_chunk_plan.proofs.Common.{Global, List, Vec, ◌≡◌, ◌∙◌, ◌++◌, ◌∷◌, [], ℕ, ap, length, map, min, refl, sym, take, take_all, take_more}
+use Rattle.zarrs_chunk_plan.proofs.Common.{greatest, product, shapes_tried, numbers_of}
 use Rattle.zarrs_chunk_plan.proofs.two_stages.EdgesTried.{one_more}
 use Rattle.zarrs_chunk_plan.proofs.two_stages.stages.shapes_of.Goals as goal
 

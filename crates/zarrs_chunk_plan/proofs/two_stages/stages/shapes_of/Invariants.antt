@@ -1,7 +1,4 @@
-use Rattle.std.proofs.Common.{◌≡◌, min, take}
-use Rattle.zarrs_chunk_base.specs.Greatest.{greatest}
-use Rattle.zarrs_chunk_plan.specs.Stages.{shapes_tried}
-use Rattle.zarrs_chunk_plan.specs.seen.Stages.{numbers_of}
+use Rattle.zarrs_chunk_plan.proofs.Common.{◌≡◌, min, take, greatest, shapes_tried, numbers_of}
 use Rattle.zarrs_chunk_plan.proofs.two_stages.stages.shapes_of.Given as goal
 
 -- as many as the rows so far make

@@ -1,7 +1,5 @@
-use Rattle.std.proofs.Common.{Global, Vec, ◌∙◌, ◌++◌, ◌∷◌, [], ℕ, ap, ap₂, arith, refl, sym}
-use Rattle.std.proofs.lemmas.List.{map-append, take_all, take_more}
-use Rattle.zarrs_chunk_plan.specs.Stages.{all_tried}
-use Rattle.zarrs_chunk_plan.specs.seen.Stages.{numbers_of}
+use Rattle.zarrs_chunk_plan.proofs.Common.{Global, Vec, ◌∙◌, ◌++◌, ◌∷◌, [], ℕ, ap, ap₂, arith, refl, sym, map-append, take_all, take_more, all_tried}
+use Rattle.zarrs_chunk_plan.proofs.Common.{numbers_of}
 use Rattle.zarrs_chunk_plan.proofs.two_stages.EdgesTried.{tried_at, tried_long}
 use Rattle.zarrs_chunk_plan.proofs.two_stages.tried.all_tried.Goals as goal
 

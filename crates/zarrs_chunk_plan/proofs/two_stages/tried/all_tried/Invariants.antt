@@ -1,6 +1,4 @@
-use Rattle.std.proofs.Common.{◌≡◌, take}
-use Rattle.zarrs_chunk_plan.specs.Stages.{all_tried}
-use Rattle.zarrs_chunk_plan.specs.seen.Stages.{numbers_of}
+use Rattle.zarrs_chunk_plan.proofs.Common.{◌≡◌, take, all_tried, numbers_of}
 use Rattle.zarrs_chunk_plan.proofs.two_stages.tried.all_tried.Given as goal
 
 -- the edges of the dimensions so far

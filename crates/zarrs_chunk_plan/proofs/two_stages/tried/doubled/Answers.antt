@@ -1,5 +1,4 @@
-use Rattle.std.proofs.Common.{◌≡◌, ◌∙◌, ◌++◌, ◌-◌, ap, arith, refl, sym}
-use Rattle.zarrs_chunk_plan.specs.Stages.{doubled}
+use Rattle.zarrs_chunk_plan.proofs.Common.{◌≡◌, ◌∙◌, ◌++◌, ◌-◌, ap, arith, refl, sym, doubled}
 use Rattle.zarrs_chunk_plan.proofs.two_stages.EdgesTried.{no_turn, not_at_all, one_turn}
 use Rattle.zarrs_chunk_plan.proofs.two_stages.tried.doubled.Goals as goal
 use Rattle.zarrs_chunk_plan.proofs.two_stages.tried.doubled.Goals.{else-edge-last, then-edge-last+in_ok-push}

@@ -1,5 +1,4 @@
-use Rattle.std.proofs.Common.{◌≡◌, ◌++◌, ◌-◌}
-use Rattle.zarrs_chunk_plan.specs.Stages.{doubled}
+use Rattle.zarrs_chunk_plan.proofs.Common.{◌≡◌, ◌++◌, ◌-◌, doubled}
 use Rattle.zarrs_chunk_plan.proofs.two_stages.tried.doubled.Given as goal
 
 -- what is there, and what the edge is still doubled to, are together all

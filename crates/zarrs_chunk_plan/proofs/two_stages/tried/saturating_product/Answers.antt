@@ -1,7 +1,4 @@
-use Rattle.std.proofs.Common.{◌∙◌, ap, min, refl, sym, take}
-use Rattle.std.proofs.lemmas.List.{take_all, take_more}
-use Rattle.zarrs_chunk_base.specs.Greatest.{greatest}
-use Rattle.zarrs_chunk_plan.specs.Counts.{product}
+use Rattle.zarrs_chunk_plan.proofs.Common.{◌∙◌, ap, min, refl, sym, take, take_all, take_more, greatest, product}
 use Rattle.zarrs_chunk_plan.proofs.two_stages.EdgesTried.{one_more}
 use Rattle.zarrs_chunk_plan.proofs.two_stages.tried.saturating_product.Goals as goal
 

@@ -1,6 +1,4 @@
-use Rattle.std.proofs.Common.{◌≡◌, min, take}
-use Rattle.zarrs_chunk_base.specs.Greatest.{greatest}
-use Rattle.zarrs_chunk_plan.specs.Counts.{product}
+use Rattle.zarrs_chunk_plan.proofs.Common.{◌≡◌, min, take, greatest, product}
 use Rattle.zarrs_chunk_plan.proofs.two_stages.tried.saturating_product.Given as goal
 
 -- the product of the numbers so far

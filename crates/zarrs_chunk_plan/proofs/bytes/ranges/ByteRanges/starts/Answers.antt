@@ -1,7 +1,6 @@
-use Rattle.std.proofs.Common.{◌≡◌, ◌∙◌, ◌≤◌, ℕ, IfOk, IfSome, List, MatchOption, None, Option, Result, Some, Ok, Err, Vec, Global, ap, arith, length, rules, sym}
-use Rattle.std.proofs.lemmas.List.{nil_from_length}
-use Rattle.std.specs.declared.alloc.AllocError.{AllocError}
-use Rattle.zarrs_chunk_plan.specs.Bytes.{HasPast, begins}
+use Rattle.zarrs_chunk_plan.proofs.Common.{◌≡◌, ◌∙◌, ◌≤◌, ℕ, IfOk, IfSome, List, MatchOption, None, Option, Result, Some, Ok, Err, Vec, Global, ap}
+use Rattle.zarrs_chunk_plan.proofs.Common.{arith, length, rules, sym, nil_from_length, AllocError, begins}
+use Rattle.zarrs_chunk_plan.specs.Bytes.{HasPast}
 use Rattle.zarrs_chunk_plan.proofs.bytes.RangeStarts.{begins_length}
 use Rattle.zarrs_chunk_plan.proofs.bytes.ranges.ByteRanges.starts.Goals as goal
 

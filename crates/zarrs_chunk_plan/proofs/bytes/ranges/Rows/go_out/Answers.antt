@@ -1,7 +1,6 @@
-use Rattle.std.proofs.Common.{◌≡◌, ◌∙◌, ◌+◌, ◌*◌, ◌&&◌, ◌==◌, ap, refl, sym, arith}
-use Rattle.std.proofs.Math.Nat.{add-mul, mul-le-mul_right, mul_assoc}
-use Rattle.std.proofs.lemmas.Nat.{row_fits}
-use Rattle.zarrs_chunk_plan.specs.Counts.{product}
+use Rattle.zarrs_chunk_plan.proofs.Common.{◌≡◌, ◌∙◌, ◌+◌, ◌*◌, ◌==◌, ap, refl, sym, arith, mul-le-mul_right, mul_assoc, row_fits, product}
+use Rattle.std.proofs.Common.{◌&&◌}
+use Rattle.std.proofs.Math.Nat.{add-mul}
 use Rattle.zarrs_chunk_plan.proofs.bytes.ranges.Rows.go_out.Goals as goal
 use Rattle.zarrs_chunk_plan.proofs.bytes.ranges.Rows.go_out.Goals.{then-self, else-self+in_ok-insert+in_ok-insert-2}
 

@@ -1,6 +1,4 @@
-use Rattle.zarrs_chunks.proofs.ChunksInBoxes.{are_those_inside}
-use Rattle.zarrs_chunks.specs.Walks.{chunks_in}
-use Rattle.zarrs_chunk_parts.specs.Plan.{Meets}
+use Rattle.zarrs_chunk_plan.proofs.Common.{are_those_inside, chunks_in, Meets}
 use Rattle.zarrs_chunk_plan.proofs.Plans.{all_of_each}
 use Rattle.zarrs_chunk_plan.proofs.copy.chunk_copies.Copies.new.Goals as goal
 

@@ -1,7 +1,5 @@
-use Rattle.std.proofs.Common.{◌∙◌, ap}
-use Rattle.zarrs_chunks.specs.Walks.{chunks_in}
+use Rattle.zarrs_chunk_plan.proofs.Common.{◌∙◌, ap, chunks_in, is_stored}
 use Rattle.zarrs_chunk_plan.specs.seen.Copies.{all_targets, target_of}
-use Rattle.zarrs_chunk_plan.specs.seen.StoredChunks.{is_stored}
 use Rattle.zarrs_chunk_plan.proofs.copy.MarkedChunks.{knows_none, none_set}
 use Rattle.zarrs_chunk_plan.proofs.copy.chunk_copies.Copies.none_stored.Goals as goal
 

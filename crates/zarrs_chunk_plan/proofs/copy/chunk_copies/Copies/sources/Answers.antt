@@ -1,4 +1,4 @@
-use Rattle.std.proofs.Common.{IfOk, IfSome, ap, subst, sym}
+use Rattle.zarrs_chunk_plan.proofs.Common.{IfOk, IfSome, ap, subst, sym}
 use Rattle.std.specs.List.{Contains}
 use Rattle.zarrs_chunk_plan.specs.seen.Copies.{IsPlanned}
 use Rattle.zarrs_chunk_plan.proofs.Copied.{planned_of}

@@ -1,4 +1,4 @@
-use Rattle.std.proofs.Common.{refl}
+use Rattle.zarrs_chunk_plan.proofs.Common.{refl}
 use Rattle.zarrs_chunk_plan.proofs.Copied.{gives_copies}
 use Rattle.zarrs_chunk_plan.proofs.copy.chunk_copies.CopiesIterator.next.Goals as goal
 

@@ -1,6 +1,4 @@
-use Rattle.std.proofs.Common.{◌≡◌, ◌==◌, ◌∙◌, ◌/◌, ◌%◌, ◌≤◌, ap, get_or, sym, arith}
-use Rattle.std.specs.Int.{bit_at}
-use Rattle.zarrs_chunk_plan.specs.seen.StoredChunks.{is_stored}
+use Rattle.zarrs_chunk_plan.proofs.Common.{◌≡◌, ◌==◌, ◌∙◌, ◌/◌, ◌%◌, ◌≤◌, ap, get_or, sym, arith, bit_at, is_stored}
 use Rattle.zarrs_chunk_plan.proofs.copy.MarkedChunks.{none_there}
 use Rattle.zarrs_chunk_plan.proofs.copy.stored_chunks.StoredChunks.has.Goals as goal
 

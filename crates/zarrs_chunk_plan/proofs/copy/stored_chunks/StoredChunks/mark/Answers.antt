@@ -1,9 +1,5 @@
-use Rattle.std.proofs.Common.{◌∙◌, ◌<◌, ◌/◌, ap, length, refl, arith}
+use Rattle.zarrs_chunk_plan.proofs.Common.{◌∙◌, ◌<◌, ◌/◌, ap, length, refl, arith, slice_get_within, bit_at, chunks_in, is_stored}
 use Rattle.std.proofs.lemmas.Grind.{get_or_default_zero}
-use Rattle.std.proofs.lemmas.Option.{slice_get_within}
-use Rattle.std.specs.Int.{bit_at}
-use Rattle.zarrs_chunks.specs.Walks.{chunks_in}
-use Rattle.zarrs_chunk_plan.specs.seen.StoredChunks.{is_stored}
 use Rattle.zarrs_chunk_plan.proofs.copy.MarkedChunks.{bit_kept, bit_set, same_number}
 use Rattle.zarrs_chunk_plan.proofs.copy.stored_chunks.StoredChunks.mark.Goals as goal
 

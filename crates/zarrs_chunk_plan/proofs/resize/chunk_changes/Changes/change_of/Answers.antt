@@ -1,4 +1,4 @@
-use Rattle.std.proofs.Common.{◌∙◌, refl, sym}
+use Rattle.zarrs_chunk_plan.proofs.Common.{◌∙◌, refl, sym}
 use Rattle.zarrs_chunk_plan.proofs.resize.ChunksChanged.{becomes}
 use Rattle.zarrs_chunk_plan.proofs.resize.chunk_changes.Changes.change_of.Goals as goal
 

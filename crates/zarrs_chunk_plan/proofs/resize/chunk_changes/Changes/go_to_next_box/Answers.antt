@@ -1,4 +1,4 @@
-use Rattle.std.proofs.Common.{◌∙◌, sym}
+use Rattle.zarrs_chunk_plan.proofs.Common.{◌∙◌, sym}
 use Rattle.std.proofs.lemmas.Bool.{true≢false}
 use Rattle.zarrs_chunk_plan.specs.seen.ChunksBetween.{chunks_between}
 use Rattle.zarrs_chunk_plan.proofs.resize.ChunksChanged.{passed, some_to_come}

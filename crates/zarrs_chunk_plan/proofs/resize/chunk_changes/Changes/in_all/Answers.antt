@@ -1,6 +1,4 @@
-use Rattle.std.proofs.Common.{◌+◌, ◌∙◌, arith, refl, length, ap, sym}
-use Rattle.zarrs_chunk_plan.specs.Counted.{counted}
-use Rattle.zarrs_chunk_axes.specs.RowMajor.{row_major}
+use Rattle.zarrs_chunk_plan.proofs.Common.{◌+◌, ◌∙◌, arith, refl, length, ap, sym, counted, row_major}
 use Rattle.zarrs_chunk_plan.proofs.resize.ChunksChanged.{all_counted, one_box_counted, zero_counted}
 use Rattle.zarrs_chunk_plan.proofs.resize.chunk_changes.Changes.in_all.Goals as goal
 

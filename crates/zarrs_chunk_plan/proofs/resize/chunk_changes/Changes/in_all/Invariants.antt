@@ -1,6 +1,4 @@
-use Rattle.std.proofs.Common.{◌≡◌, ◌+◌, ℕ, drop, length}
-use Rattle.zarrs_chunk_plan.specs.Counted.{counted}
-use Rattle.zarrs_chunk_plan.specs.seen.Outside.{chunks_of_boxes}
+use Rattle.zarrs_chunk_plan.proofs.Common.{◌≡◌, ◌+◌, ℕ, drop, length, counted, chunks_of_boxes}
 use Rattle.zarrs_chunk_plan.proofs.resize.chunk_changes.Changes.in_all.Given as goal
 
 -- so many chunks were counted, and the others lie in the boxes that are left

@@ -1,5 +1,5 @@
-use Rattle.std.proofs.Common.{◌≡◌, ◌-◌, length}
-use Rattle.zarrs_chunk_plan.specs.seen.Changes.{IsSameWalk, changes_to_come}
+use Rattle.zarrs_chunk_plan.proofs.Common.{◌≡◌, ◌-◌, length, changes_to_come}
+use Rattle.zarrs_chunk_plan.specs.seen.Changes.{IsSameWalk}
 use Rattle.zarrs_chunk_plan.proofs.resize.chunk_changes.Changes.next_chunk.Given as goal
 
 -- nothing came yet

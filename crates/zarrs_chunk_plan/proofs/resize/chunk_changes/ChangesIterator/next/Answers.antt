@@ -1,7 +1,5 @@
-use Rattle.std.proofs.Common.{◌∷◌, ◌∙◌, ap, subst, sym}
-use Rattle.zarrs_chunk_plan.specs.seen.Changes.{CanChange, changes_to_come}
-use Rattle.zarrs_chunk_plan.specs.seen.Outside.{chunks_of_boxes}
-use Rattle.zarrs_chunk_plan.specs.Resize.{IsChange}
+use Rattle.zarrs_chunk_plan.proofs.Common.{◌∷◌, ◌∙◌, ap, subst, sym, changes_to_come, chunks_of_boxes, IsChange}
+use Rattle.zarrs_chunk_plan.specs.seen.Changes.{CanChange}
 use Rattle.zarrs_chunk_plan.proofs.resize.chunk_changes.ChangesIterator.next.Goals as goal
 
 pub returns-in-Ok-change_of-clause-steps : goal.returns-in-Ok-change_of-clause-steps

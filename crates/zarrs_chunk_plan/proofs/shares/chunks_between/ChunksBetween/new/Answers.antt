@@ -1,7 +1,6 @@
-use Rattle.std.proofs.Common.{◌≡◌, ◌∙◌, ◌≤◌, Contains, [], length, map, ap, refl, sym, true≢false, arith}
-use Rattle.zarrs_chunk_axes.specs.RowMajor.{row_major}
-use Rattle.zarrs_chunks.specs.Walks.{chunks_in, counted_from}
-use Rattle.zarrs_chunk_plan.specs.seen.Between.{end_rank, rank}
+use Rattle.zarrs_chunk_plan.proofs.Common.{◌≡◌, ◌∙◌, ◌≤◌, Contains, [], length, map, ap, refl, sym, true≢false, arith, row_major, chunks_in}
+use Rattle.zarrs_chunk_plan.proofs.Common.{counted_from, rank}
+use Rattle.zarrs_chunk_plan.specs.seen.Between.{end_rank}
 use Rattle.zarrs_chunk_plan.proofs.shares.BeforeShares.{before_next}
 use Rattle.zarrs_chunk_plan.proofs.shares.Between.{begins_before, begins_with, none_below, share_map, share_nil}
 use Rattle.zarrs_chunk_plan.proofs.shares.chunks_between.ChunksBetween.new.Goals as goal

@@ -1,7 +1,6 @@
-use Rattle.std.proofs.Common.{◌≡◌, ◌∙◌, ◌∷◌, length, map, ap, refl, sym, arith}
+use Rattle.zarrs_chunk_plan.proofs.Common.{◌≡◌, ◌∙◌, ◌∷◌, length, map, ap, refl, sym, arith, counted_from, length_below}
 use Rattle.std.specs.List.{refill}
-use Rattle.zarrs_chunks.specs.Walks.{counted_from}
-use Rattle.zarrs_chunks.proofs.ChunksInBoxes.{are_counted, length_below, sums_fit, written}
+use Rattle.zarrs_chunks.proofs.ChunksInBoxes.{are_counted, sums_fit, written}
 use Rattle.zarrs_chunk_plan.specs.seen.Between.{lists_between}
 use Rattle.zarrs_chunk_plan.proofs.shares.Between.{some_left, stepped}
 use Rattle.zarrs_chunk_plan.proofs.shares.chunks_between.ChunksBetweenIterator.next.Goals as goal

@@ -1,7 +1,4 @@
-use Rattle.std.proofs.Common.{◌≡◌, ◌∙◌, ◌+◌, ap, length, sym, arith}
-use Rattle.zarrs_chunk_axes.specs.RowMajor.{row_major}
-use Rattle.zarrs_chunk_plan.specs.Counted.{counted}
-use Rattle.zarrs_chunk_plan.specs.Shares.{before_share}
+use Rattle.zarrs_chunk_plan.proofs.Common.{◌≡◌, ◌∙◌, ◌+◌, ap, length, sym, arith, row_major, counted, before_share}
 use Rattle.zarrs_chunk_plan.proofs.shares.BeforeShares.{all_before}
 use Rattle.zarrs_chunk_plan.proofs.counts.BoxCounts.{below_shape}
 use Rattle.zarrs_chunk_plan.proofs.shares.share.Share.line_numbers.Goals as goal

@@ -1,5 +1,4 @@
-use Rattle.std.proofs.Common.{◌≡◌, ◌∙◌, ◌+◌, ◌*◌, ◌/◌, ◌%◌, ◌≤◌, Some, ap, sym, ⊎_elim, arith}
-use Rattle.zarrs_chunk_base.specs.Greatest.{greatest}
+use Rattle.zarrs_chunk_plan.proofs.Common.{◌≡◌, ◌∙◌, ◌+◌, ◌*◌, ◌/◌, ◌%◌, ◌≤◌, Some, ap, sym, ⊎_elim, arith, greatest}
 use Rattle.zarrs_chunk_plan.proofs.shares.BeforeShares.{told_before}
 use Rattle.zarrs_chunk_plan.proofs.shares.share.Share.lines_before.Goals as goal
 
