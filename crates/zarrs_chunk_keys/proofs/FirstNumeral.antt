@@ -4,11 +4,8 @@ use Rattle.std.proofs.Common.{arith}
 use Rattle.zarrs_chunk_base.specs.Greatest.{AllFit, greatest}
 use Rattle.zarrs_chunk_keys.specs.Numeral.{IsNumeral, IsNumerals, digit, more_digits, one_digit}
 use Rattle.zarrs_chunk_keys.specs.lemmas.Numerals.{same_number}
-use Rattle.zarrs_chunk_keys.specs.lemmas.Parts.{EndsBefore}
+use Rattle.zarrs_chunk_keys.specs.lemmas.Parts.{EndsBefore, tails}
 use Rattle.zarrs_chunk_keys.proofs.NumeralDigits.{AreDigits, begins, goes_on, numeral_is_digits, some_digit, zero_alone}
-
-tails : {x y : ℕ} {xs ys : List ℕ} → x ∷ xs ≡ y ∷ ys → xs ≡ ys
-tails same = cc
 
 -- digits up to the byte are known
 pub same_digits : (b : ℕ) (s t x y : List ℕ) → b < 48 → AreDigits s → AreDigits t → s ++ x ≡ t ++ y → EndsBefore b x

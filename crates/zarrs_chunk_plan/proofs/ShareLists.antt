@@ -1,7 +1,7 @@
 -- Shares of a list: together they are the list, and what is one of a list that is tied to another is so of that one.
 use Rattle.zarrs_chunk_plan.proofs.Common.{◌≡◌, ◌∙◌, ℕ, zero, suc, ◌+◌, ◌-◌, ◌*◌, ◌<◌, ◌≤◌, List, [], ◌∷◌, ◌++◌, drop, length, take, refl, ap, subst}
 use Rattle.zarrs_chunk_plan.proofs.Common.{sym, arith, div-eq_of_lt, drop-nil, take-length, length-drop, AllZip-long, AllByRecursion, AllZip}
-use Rattle.zarrs_chunk_plan.proofs.Common.{flat_map, range_with_len, before_share, between}
+use Rattle.zarrs_chunk_plan.proofs.Common.{flat_map, range_with_len, before_share, between, mul-le-mul_right}
 use Rattle.std.proofs.Math.Nat.{div-le_of_le-mul}
 use Rattle.std.proofs.Math.Seq.{drop-append_seam, take-add, take-append_seam}
 use Rattle.std.proofs.lemmas.List.{length-take, take-append-drop}
@@ -9,7 +9,6 @@ use Rattle.std.proofs.lemmas.List.Elements.{All-drop, All-from_recursion, All-ta
 use Rattle.zarrs_chunk_plan.specs.Shares.{numbered_share, share_of}
 use Rattle.zarrs_chunk_plan.specs.declared.shares.share.Share.{Share}
 use Rattle.zarrs_chunk_plan.proofs.shares.BeforeShares.{all_before, before_next}
-use Rattle.zarrs_chunk_plan.proofs.shares.Ranks.{times_le}
 
 drop_more : {X : Type 0} (m n : ℕ) (xs : List X) → drop m (drop n xs) ≡ drop (n + m) xs
 drop_more m zero xs = ap (λ k. drop k xs) (let same : m ≡ 0 + m = omega arith in same)
@@ -109,7 +108,7 @@ module _ {X Y : Type 0} (M : X → Type 0) (R : X → Y → Type 0)
       let count = length xs in
       let low = before_next share.number share.of count (omega arith) in
       let high : before_share (share.number + 1) share.of count ≤ count =
-      div-le_of_le-mul share.of (let most = times_le (share.number + 1) share.of count (omega arith) in most)
+      div-le_of_le-mul share.of (let most = mul-le-mul_right {m = share.number + 1} {n = share.of} count (omega arith) in most)
       in
       let (all, tied, is) =
       within (before_share share.number share.of count) (before_share (share.number + 1) share.of count) xs ys meet low high are in

@@ -23,7 +23,7 @@ ends_fit : (shape : List ℕ) → AllFit shape → AllFit (ends (replicate (leng
 ends_fit [] fit = tt
 ends_fit (n ∷ shape) fit = let here : n ≤ greatest = fit.0 in (omega arith, ends_fit shape fit.1)
 
-from_zero : (shape : List ℕ) (n : ℕ) → length shape ≡ n → AllFit shape → IsBox (record { start = replicate n 0; shape = shape })
+pub from_zero : (shape : List ℕ) (n : ℕ) → length shape ≡ n → AllFit shape → IsBox (record { start = replicate n 0; shape = shape })
 from_zero shape n same fit = rw (← same) (record { lengths = length-replicate (length shape) 0; fits = ends_fit shape fit })
 
 pub array_is_box : (ds : List Dimension) → AllFit (array_sizes ds) → IsBox (array_box ds)

@@ -1,5 +1,5 @@
 -- Each list of numbers has a key, under each encoding, since each number has a numeral.
-use Rattle.std.proofs.Common.{◌≡◌, ◌≢◌, ℕ, ◌<◌, ◌≤◌, ◌^◌, List, [], ◌∷◌, ◌++◌, append-nil, append_assoc, ap, arith, codes, decimal, length, refl, subst, sym}
+use Rattle.std.proofs.Common.{◌≢◌, ℕ, ◌<◌, ◌≤◌, ◌^◌, List, [], ◌∷◌, ◌++◌, append-nil, append_assoc, ap, arith, codes, decimal, length, refl, subst, sym}
 use Rattle.std.proofs.lemmas.Fmt.{decimal_by_steps}
 use Rattle.zarrs_chunk_base.specs.declared.chunk_key_separator.ChunkKeySeparator.{ChunkKeySeparator}
 use Rattle.zarrs_chunk_base.specs.ChunkKeySeparator.{separator_byte}
@@ -29,7 +29,7 @@ have_default separator chunk fit =
     (λ numbers key n fits is. (key ++ separator_byte separator ∷ decimal n, one_more is (IsNumeral-decimal n (omega arith)) refl refl))
     [] (codes "c") chunk fit (c_alone refl refl)
 
-pushed_some : (numbers : List ℕ) (n : ℕ) → numbers ++ n ∷ [] ≢ []
+pub pushed_some : (numbers : List ℕ) (n : ℕ) → numbers ++ n ∷ [] ≢ []
 pushed_some [] n same = let lengths = ap length same in absurd (omega arith)
 pushed_some (x ∷ numbers) n same = let lengths = ap length same in absurd (omega arith)
 

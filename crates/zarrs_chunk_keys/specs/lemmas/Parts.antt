@@ -6,7 +6,7 @@ use Rattle.zarrs_chunk_keys.specs.lemmas.Numerals.{AreHigh}
 heads : {x y : ℕ} {xs ys : List ℕ} → x ∷ xs ≡ y ∷ ys → x ≡ y
 heads same = cc
 
-tails : {x y : ℕ} {xs ys : List ℕ} → x ∷ xs ≡ y ∷ ys → xs ≡ ys
+pub tails : {x y : ℕ} {xs ys : List ℕ} → x ∷ xs ≡ y ∷ ys → xs ≡ ys
 tails same = cc
 
 -- a byte below the digits isn't in high bytes

@@ -3,7 +3,7 @@ use Rattle.zarrs_chunk_plan.proofs.Common.{◌≡◌, ◌≢◌, ◌↔◌, ◌�
 use Rattle.zarrs_chunk_plan.proofs.Common.{length-append, Bool, IsTrue, true, false, drop, get_or, map, ◌++◌, refl, ap, subst, sym, ⊎_elim, arith}
 use Rattle.zarrs_chunk_plan.proofs.Common.{drop-cons, nil_from_length, same_Some, AllByRecursion, Box, IsEmptyBox, Dimension, greatest, AreBelow}
 use Rattle.zarrs_chunk_plan.proofs.Common.{row_major, chunks_in, counted_from, head_some, tail_some, counted, IsChanged, IsKept, Change}
-use Rattle.zarrs_chunk_plan.proofs.Common.{chunks_of_boxes}
+use Rattle.zarrs_chunk_plan.proofs.Common.{chunks_of_boxes, mul-le-mul_right}
 use Rattle.std.proofs.Common.{is_some}
 use Rattle.std.proofs.Math.ListN.{drop_of_length-le}
 use Rattle.std.proofs.lemmas.Bool.{true≢false}
@@ -14,7 +14,6 @@ use Rattle.zarrs_chunk_plan.specs.declared.resize.plan.Held.{Held}
 use Rattle.zarrs_chunk_plan.specs.seen.Changes.{what_becomes}
 use Rattle.zarrs_chunk_plan.proofs.ByNumber.{as_many, counted_cases, length-shape}
 use Rattle.zarrs_chunk_plan.proofs.shares.Between.{none_below}
-use Rattle.zarrs_chunk_plan.proofs.shares.Ranks.{times_le}
 
 -- each number is below its size exactly where all are
 pub all_below : (sizes numbers : List ℕ) → length numbers ≡ length sizes
@@ -32,7 +31,7 @@ some_below (n ∷ shape) some =
     let any : 0 < n = head_some n shape some in
     let rest = some_below shape (tail_some n shape some) in
     let long = length-shape n shape in
-    omega (arith, times_le 1 n (length (row_major shape)) (omega arith))
+    omega (arith, mul-le-mul_right {m = 1} {n = n} (length (row_major shape)) (omega arith))
 
 pub some_chunk : (b : Box) → (¬ IsEmptyBox b) → chunks_in b ≢ []
 some_chunk b some none =

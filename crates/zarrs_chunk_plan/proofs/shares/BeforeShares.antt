@@ -1,11 +1,10 @@
 -- How many of so many come before a share.
 use Rattle.zarrs_chunk_plan.proofs.Common.{◌≡◌, ◌⊎◌, ◌∙◌, ℕ, zero, suc, ◌+◌, ◌-◌, ◌*◌, ◌/◌, ◌%◌, ◌^◌, ◌<◌, ◌≤◌, Some, None, ap, inl, inr, min, refl}
 use Rattle.zarrs_chunk_plan.proofs.Common.{sym, ⊎_elim, arith, div-add-mod, div-eq_of_lt, mul-zero, mul_assoc, mul_comm, cases_lt, greatest, counted}
-use Rattle.zarrs_chunk_plan.proofs.Common.{before_share}
+use Rattle.zarrs_chunk_plan.proofs.Common.{before_share, mul-le-mul_right}
 use Rattle.std.proofs.Math.Nat.{div-mul-le_self, mul-add-div}
 use Rattle.std.proofs.lemmas.Nat.{div-mul-add, le-div}
 use Rattle.zarrs_chunk_plan.proofs.ByNumber.{counted_cases}
-use Rattle.zarrs_chunk_plan.proofs.shares.Ranks.{times_le}
 
 -- all come before the end of the last one
 pub all_before : (number of all : ℕ) → number + 1 ≡ of → before_share (number + 1) of all ≡ all
@@ -18,7 +17,7 @@ pub before_next : (number of all : ℕ) → 0 < of → before_share number of al
 before_next number of all some =
     le-div (number * all / of) ((number + 1) * all) of some
     (let low : number * all / of * of ≤ number * all = div-mul-le_self (number * all) of in
-    let more = times_le number (number + 1) all (omega arith) in omega arith)
+    let more = mul-le-mul_right {m = number} {n = number + 1} all (omega arith) in omega arith)
 
 -- the same by a quotient and a rest, which are smaller
 split : (number of all : ℕ) → 0 < of → before_share number of all ≡ all / of * number + all % of * number / of
@@ -55,7 +54,7 @@ told_long zero of all count some small much is =
     (counted_cases (before_share 0 of all))
 told_long (suc number) of all count some small much is =
     let part = far count of some small (omega arith) in
-    let all_of = times_le 1 (suc number) all (omega arith) in
+    let all_of = mul-le-mul_right {m = 1} {n = suc number} all (omega arith) in
     let before : greatest < before_share (suc number) of all = far (suc number * all) of some small (omega arith) in
     ⊎_elim (λ (fits, told). absurd (omega arith)) (λ (past, told). inr (omega arith, told)) (counted_cases (before_share (suc number) of all))
 

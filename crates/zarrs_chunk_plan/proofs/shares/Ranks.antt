@@ -1,8 +1,8 @@
 -- The place of a list below a shape among all of them, and the list at a part of the way.
 use Rattle.zarrs_chunk_plan.proofs.Common.{◌≡◌, ◌∙◌, ℕ, zero, suc, ◌+◌, ◌-◌, ◌*◌, ◌<◌, ◌≤◌, ◌/◌, ◌%◌, List, [], ◌∷◌, ◌++◌, Contains, drop, length}
-use Rattle.zarrs_chunk_plan.proofs.Common.{map, refl, ap, sym, ⊎_elim, arith, div-add-mod, div-eq_of_lt, mod-lt, mul-zero, mul_assoc, cases_lt}
+use Rattle.zarrs_chunk_plan.proofs.Common.{map, refl, ap, sym, ⊎_elim, arith, div-add-mod, div-eq_of_lt, mod-lt, mul_assoc, mul_comm, row_fits}
 use Rattle.zarrs_chunk_plan.proofs.Common.{drop-map, length-drop, length-map, AreBelow, row_major, rows, head_some, tail_some, rank}
-use Rattle.std.proofs.Math.Nat.{mul-add-div, mul-suc}
+use Rattle.std.proofs.Math.Nat.{add-mul, div-lt_iff_lt-mul, mul-add-div}
 use Rattle.std.proofs.lemmas.List.{drop-append-le}
 use Rattle.std.proofs.Math.Seq.{drop-append-add}
 use Rattle.zarrs_chunk_axes.specs.seen.Counting.{after}
@@ -32,16 +32,13 @@ drop_rows first (suc count) (suc n) k others less within =
     (drop-append-add (map (λ numbers. first ∷ numbers) others) (rows (first + 1) count others) (n * length others + k)
     ∙ drop_rows (first + 1) count n k others (omega arith) within)
 
-rank_fits : (n size lists place : ℕ) → n < size → place < lists → n * lists + place < size * lists
-rank_fits n zero lists place less within = absurd (omega arith)
-rank_fits zero (suc size) lists place less within = omega arith
-rank_fits (suc n) (suc size) lists place less within = let rest = rank_fits n size lists place (omega arith) within in omega arith
-
 pub rank_within : (shape numbers : List ℕ) → AreBelow shape numbers → rank shape numbers < length (row_major shape)
 unfolding row_major
 rank_within [] [] below = omega arith
 rank_within (size ∷ shape) (n ∷ numbers) below =
-    rw (length-shape size shape) (rank_fits n size (length (row_major shape)) (rank shape numbers) below.0 (rank_within shape numbers below.1))
+    let rest = rank_within shape numbers below.1 in
+    let row = row_fits n (length (row_major shape)) size (length (row_major shape)) below.0 (omega arith) in
+    rw (length-shape size shape) (omega arith)
 rank_within _ _ below = absurd below
 
 -- from its place on come the list and those after it
@@ -79,27 +76,10 @@ module _ (shape : List ℕ) where
 
 -- ---- the list at a part of the way
 
-pub times_le : (a b c : ℕ) → a ≤ b → a * c ≤ b * c
-times_le a b zero low = let one = mul-zero a in let other = mul-zero b in omega arith
-times_le a b (suc c) low = let rest = times_le a b c low in let one = mul-suc a c in let other = mul-suc b c in omega arith
-
-times_less : (a b c : ℕ) → a < b → 0 < c → a * c < b * c
-times_less a b zero less some = absurd (omega arith)
-times_less a b (suc c) less some =
-    let rest = times_le a b c (omega arith) in
-    omega arith
-
-add_mul : (a b c : ℕ) → (a + b) * c ≡ a * c + b * c
-add_mul a b c = omega arith
-
 part_below : (part of size : ℕ) → part < of → 0 < size → part * size / of < size
 part_below part of size less some =
-    let more : part * size < of * size = times_less part of size less some in
-    ⊎_elim (λ (fits : part * size / of < size). fits)
-    (λ (past : size ≤ part * size / of).
-    let times : size * of ≤ part * size / of * of = times_le size (part * size / of) of past in
-    absurd (omega arith))
-    (cases_lt (part * size / of) size)
+    let positive : 0 < of = omega arith in
+    (div-lt_iff_lt-mul positive).1 (omega (arith, row_fits part size of size less (omega arith), mul_comm of size))
 
 part_split : (part of size lists : ℕ) → 0 < of → part * (size * lists) / of ≡ part * size / of * lists + part * size % of * lists / of
 part_split part of size lists some =
@@ -107,7 +87,7 @@ part_split part of size lists some =
     let rest = part * size % of in
     let whole : of * quotient + rest ≡ part * size = div-add-mod (part * size) of in
     let same : part * (size * lists) ≡ of * (quotient * lists) + rest * lists =
-    sym (mul_assoc part size lists) ∙ ap (λ n. n * lists) (sym whole) ∙ add_mul (of * quotient) rest lists
+    sym (mul_assoc part size lists) ∙ ap (λ n. n * lists) (sym whole) ∙ add-mul (of * quotient) rest lists
     ∙ ap (λ n. n + rest * lists) (mul_assoc of quotient lists)
     in
     rw same (mul-add-div some (quotient * lists) (rest * lists))
