@@ -186,7 +186,7 @@ listed_first : (K : List ℕ → List ℕ → Type 0) (key : List ℕ) (keys : L
     → IsListed K (key ∷ keys) chunk
 listed_first K key keys chunk is = (key, (0, omega arith, refl), is)
 
-in_box : (b : Box) → IsBox b → (number : ℕ) (chunk : List ℕ) → slice_get (chunks_in b) number ≡ Some chunk → IsInside b chunk
+pub in_box : (b : Box) → IsBox b → (number : ℕ) (chunk : List ℕ) → slice_get (chunks_in b) number ≡ Some chunk → IsInside b chunk
 in_box b is_box number chunk found =
     (are_those_inside b is_box chunk).0
     (number, slice_get_within (chunks_in b) number chunk found, get_or_from_slice_get (chunks_in b) number chunk chunk found)
