@@ -90,7 +90,8 @@ int32_t zarrs_version(
 
 /* Writes the numbers of a grid, for the five calls below.
  *
- *   needed   how many numbers there are: 2, 4 for each dimension, and 3 for each run of equal edges. One edge for all chunks is one run
+ *   needed   how many numbers there are: 2, 4 for each dimension, and 3 for each run of equal edges. One edge for all chunks is one run, or
+ *            none where there is no chunk
  *
  * ZARRS_SHORT_BUFFER if numbers has room for fewer: nothing is written to it, but needed is written.
  *

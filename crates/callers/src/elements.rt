@@ -57,8 +57,17 @@ pub fn are_one_element<G: ChunkGridTraits, E: ChunkKeyEncodingTraits>(
     one: &[u64],
     other: &[u64],
 ) -> Result<bool, Refusal<IncompatibleDimensionalityError>>
-    ensures { IfOk result (λ same. IsTrue same → one.now ≡ other.now) }
+    ensures same { IfOk result (λ same. IsTrue same → one.now ≡ other.now) }
+    ensures exact { ((chunk key other_key : List ℕ) → E.is_key encoding.now chunk key
+        → E.is_key encoding.now chunk other_key → key ≡ other_key)
+        → IfOk result (λ same. IsTrue same ↔ ((one.now ≡ other.now)
+        × (chunk : List ℕ) × InBox (G.dimensions grid.now) chunk one.now)) }
+    ensures refused { IfErr result (OrMemory
+        (λ _. (length one.now ≢ length (G.dimensions grid.now))
+        ⊎ (length other.now ≢ length (G.dimensions grid.now)))) }
 {
+    // The law: no other chunk holds the one.
+    chunks_share_no_index(grid);
     let Some(found) = locate(alloc, grid, encoding, one)? else {
         return Ok(false);
     };

@@ -1,10 +1,13 @@
 //! The metadata of a grid, read from a text and written as a tree.
-ghost use Rattle.std.specs.Prelude.{◌≡◌, IfOk, IfSome, IsSome, Some, codes, map};
+ghost use Rattle.std.specs.Prelude.{◌≡◌, IfOk, IfSome, IsSome, None, Some, codes, map};
 ghost use Rattle.std.specs.Int.NonZero.{non_zero_u64_get};
+ghost use Rattle.serde_json.specs.Data.{Data};
 ghost use Rattle.serde_json.specs.Read.{read};
 ghost use Rattle.serde_json.specs.View.{view};
 ghost use Rattle.zarrs_chunk_base.specs.GridConfigurations.{regular_members};
-ghost use Rattle.zarrs_chunk_base.specs.Metadata.{IsExtension, extension_of, extension_tree};
+ghost use Rattle.zarrs_chunk_base.specs.Json.{IsJsonOf};
+ghost use Rattle.zarrs_chunk_base.specs.Metadata.{IsExtension, IsMetadataFault, extension_of, extension_tree};
+ghost use Rattle.zarrs_chunk_base.specs.declared.metadata_error.MetadataError.{MetadataError};
 
 use serde_json::Value;
 use std::alloc::{AllocError, Global};
@@ -17,6 +20,8 @@ pub fn metadata_of(alloc: Global, text: &str) -> Result<Option<MetadataV3>, Allo
     ensures json { IfOk result (λ found. IfSome found (λ _. IsSome (read text.now))) }
     ensures metadata { IfOk result (λ found. IfSome found (λ metadata. IfSome (read text.now)
         (λ tree. IsExtension tree (extension_of metadata)))) }
+    ensures none { IfOk result (λ found. found ≡ None → (tree : Data) → IsJsonOf text.now tree
+        → (fault : MetadataError) × IsMetadataFault tree fault) }
 {
     let Some(tree) = read_json(alloc, text.as_bytes())? else {
         return Ok(None);

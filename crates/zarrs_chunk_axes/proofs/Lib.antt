@@ -1,5 +1,4 @@
 pub mod Bounds
-pub mod CountedSoFar
 pub mod Dimensions
 pub mod EachAxis
 pub mod EachSoFar
@@ -16,3 +15,4 @@ pub mod Ranges
 pub mod RowMajor
 pub mod RowMajorOrder
 pub mod RunLengthForms
+pub mod Searched

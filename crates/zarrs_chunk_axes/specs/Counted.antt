@@ -1,6 +1,7 @@
 -- How often look-ups compare in dimensions whose listed edges are kept as runs.
-use Rattle.std.specs.Prelude.{◌≡◌, ℕ, ◌+◌, ◌≤◌, List, [], ◌∷◌, Option, Some, None, min}
+use Rattle.std.specs.Prelude.{◌≡◌, ℕ, ◌+◌, ◌≤◌, List, [], ◌∷◌, Option, Some, None, min, take}
 use Rattle.std.specs.List.{AllZip, sum}
+use Rattle.zarrs_chunk_base.specs.Dimension.{Dimension, InBox}
 use Rattle.zarrs_chunk_base.specs.DimensionEdges.{DimensionEdges, equal, listed}
 use Rattle.zarrs_chunk_base.specs.Greatest.{greatest}
 use Rattle.zarrs_chunk_runs.specs.Forms.{HasRuns}
@@ -34,3 +35,9 @@ pub record AreCounted (edges : List DimensionEdges) (before after : ℕ) : Type 
 -- it grows at least by as many as there are dimensions of listed edges, up to the greatest number
 abbrev pub HasOneForEach : List DimensionEdges → ℕ → ℕ → Type 0
 HasOneForEach edges before after = min (before + listed_dimensions edges) greatest ≤ after
+
+-- A look-up searches one dimension after the other, up to the first that doesn't hold the index. If the first n hold it, these and the next were
+-- searched: of them, each of listed edges adds one at least, up to the greatest number. If they don't, no later one was searched.
+pub record AreSearchedInOrder (ds : List Dimension) (edges : List DimensionEdges) (index : List ℕ) (before after : ℕ) : Type 0 where
+  pub at_least : (n : ℕ) (chunk : List ℕ) → InBox (take n ds) chunk (take n index) → HasOneForEach (take (n + 1) edges) before after
+  pub at_most : (n : ℕ) → ((chunk : List ℕ) → ¬ InBox (take n ds) chunk (take n index)) → AreCounted (take n edges) before after

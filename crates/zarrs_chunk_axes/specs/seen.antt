@@ -8,3 +8,4 @@ pub mod ListedAxis
 pub mod ListedEdges
 pub mod RowMajorWalk
 pub mod RunsAxis
+pub mod Searched

@@ -3,7 +3,7 @@
 use Rattle.std.specs.Prelude.{◌≡◌, ℕ, List, length}
 use Rattle.zarrs_chunk_base.specs.Grid.{Grid}
 use Rattle.zarrs_chunk_keys.specs.ChunkKey.{Encoding}
-use Rattle.zarrs_chunk_prepared.specs.Prepared.{IsPreparedGrid}
+use Rattle.zarrs_chunk_prepared.specs.Prepared.{IsPreparedGrid, IsWrittenGrid}
 use Rattle.zarrs_chunk_prepared.specs.PreparedEncoding.{IsPreparedEncoding}
 use Rattle.zarrs_chunk_batches.specs.Batch.{AreKept, IsTooLong, IsWhole}
 use Rattle.zarrs_chunk_batches.specs.Calls.{Call, EndsForEach, Request}
@@ -17,8 +17,8 @@ abbrev pub prepare_grid_call : (shape metadata numbers : List ℕ) (needed : ℕ
 prepare_grid_call shape metadata numbers needed =
     grid_call shape metadata (record {
       Fits = λ _. Unit {0};
-      Refuses = λ grid fault. (fault ≡ Short) × IsTooLong (λ prepared. IsPreparedGrid prepared grid) numbers needed;
-      Answers = λ grid. IsWhole (λ prepared. IsPreparedGrid prepared grid) numbers needed;
+      Refuses = λ grid fault. (fault ≡ Short) × IsTooLong (λ written. IsWrittenGrid written grid) numbers needed;
+      Answers = λ grid. IsWhole (λ written. IsWrittenGrid written grid) numbers needed;
     })
 
 -- A request of prepared numbers ends as it does of the grid whose they are. Of other numbers nothing is said.

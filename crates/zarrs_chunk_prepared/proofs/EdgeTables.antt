@@ -1,5 +1,5 @@
 -- The numbers of one edge for all chunks are those of their dimension.
-use Rattle.std.proofs.Common.{◌≡◌, ◌∙◌, ◌++◌, Bool, true, false, List, ap, ℕ, zero, suc, ◌+◌, ◌-◌, ◌*◌, ◌<◌, ◌≤◌, [], ◌∷◌, arith, get_or, min, refl, subst, sym, IsTrue, ⊎_elim}
+use Rattle.std.proofs.Common.{◌≡◌, ◌∙◌, ◌++◌, Bool, true, false, List, ap, ℕ, zero, suc, ◌+◌, ◌-◌, ◌*◌, ◌<◌, ◌≤◌, [], ◌∷◌, arith, get_or, min, inl, inr, length, refl, subst, sym, IsTrue, ⊎_elim}
 use Rattle.std.proofs.Math.Nat.{mul-le-mul_right}
 use Rattle.std.proofs.lemmas.Bool.{cases_lt}
 use Rattle.std.proofs.lemmas.List.Sorted.{IsNonDecreasingBy-short}
@@ -9,7 +9,7 @@ use Rattle.zarrs_chunk_axes.specs.LookUp.{HasRange}
 use Rattle.zarrs_chunk_base.specs.Dimension.{Dimension, Holds, IsChain}
 use Rattle.zarrs_chunk_base.specs.DimensionEdges.{equal}
 use Rattle.zarrs_chunk_base.specs.Greatest.{greatest}
-use Rattle.zarrs_chunk_prepared.specs.Prepared.{IsLastUpTo, IsOfRun, IsTableOf, LiesInRun, Table, row}
+use Rattle.zarrs_chunk_prepared.specs.Prepared.{HasRunCount, IsLastUpTo, IsOfRun, IsShortest, IsTableOf, LiesInRun, Table, row}
 use Rattle.zarrs_chunk_prepared.specs.seen.RunTable.{IsCut}
 
 -- one run, up to the last index and the last chunk
@@ -134,30 +134,37 @@ empty_table d edge chain is = record {
   no_range = λ chunk fit past range ranges. let none = (is.chunks chunk).0 ranges.start.chunk in omega arith;
 }
 
+-- one run, or none, is no more than there must be
+shortest : (d : Dimension) (edge : ℕ) (t : Table) → length t.starts ≤ 1 → HasRunCount d (length t.starts) (equal edge) → IsShortest d (equal edge) t
+shortest d edge t few runs = record { runs = runs; later = λ run within. absurd (omega arith); differ = λ run within. absurd (omega arith) }
+
 -- the numbers that were appended are those of the dimension
-abbrev pub Appended : Dimension → (before after : List ℕ) → Type 0
-Appended d before after = (t : Table) × IsTableOf d t × (after ≡ before ++ row t)
+abbrev pub Appended : Dimension → (edge : ℕ) → (before after : List ℕ) → Type 0
+Appended d edge before after = (t : Table) × IsTableOf d t × IsShortest d (equal edge) t × (after ≡ before ++ row t)
 
 module _ (before after : List ℕ) (d : Dimension) (size count edge : ℕ) (bounded : Bool) (chain : IsChain d) (counts : count ≡ d.grid_size)
     (positive : 0 < edge) (cut : IsCut bounded d size (equal edge)) where
-  pub appended_equal : bounded ≡ false → after ≡ before ++ (count ∷ greatest ∷ greatest ∷ 1 ∷ 0 ∷ 0 ∷ edge ∷ []) → Appended d before after
+  pub appended_equal : bounded ≡ false → after ≡ before ++ (count ∷ greatest ∷ greatest ∷ 1 ∷ 0 ∷ 0 ∷ edge ∷ []) → Appended d edge before after
   appended_equal unbounded is = (
     one_run d.grid_size greatest greatest edge,
     equal_table d size edge chain positive (rw unbounded at cut),
+    shortest d edge _ (omega arith) (inl (refl, (rw unbounded at cut).chunks 0)),
     is ∙ ap (λ n. before ++ (n ∷ greatest ∷ greatest ∷ 1 ∷ 0 ∷ 0 ∷ edge ∷ [])) counts,
   )
 
-  pub appended_empty : bounded ≡ true → size ≡ 0 → after ≡ before ++ (count ∷ 0 ∷ 0 ∷ 0 ∷ []) → Appended d before after
+  pub appended_empty : bounded ≡ true → size ≡ 0 → after ≡ before ++ (count ∷ 0 ∷ 0 ∷ 0 ∷ []) → Appended d edge before after
   appended_empty ends none is = (
     no_run d.grid_size,
     empty_table d edge chain (rw (ends, none) at cut),
+    shortest d edge _ (omega arith) (inr (refl, λ has. let below = ((rw (ends, none) at cut).chunks 0).0 has in omega arith)),
     is ∙ ap (λ n. before ++ (n ∷ 0 ∷ 0 ∷ 0 ∷ [])) counts,
   )
 
   pub appended_bounded : bounded ≡ true → 0 < size → size ≤ greatest
-      → after ≡ before ++ (count ∷ (size - 1) ∷ (count - 1) ∷ 1 ∷ 0 ∷ 0 ∷ edge ∷ []) → Appended d before after
+      → after ≡ before ++ (count ∷ (size - 1) ∷ (count - 1) ∷ 1 ∷ 0 ∷ 0 ∷ edge ∷ []) → Appended d edge before after
   appended_bounded ends some fits is = (
     one_run d.grid_size (size - 1) (d.grid_size - 1) edge,
     bounded_table d size edge chain positive some fits (rw ends at cut),
+    shortest d edge _ (omega arith) (inl (refl, ((rw ends at cut).chunks 0).1 (omega arith))),
     is ∙ ap (λ n. before ++ (n ∷ (size - 1) ∷ (n - 1) ∷ 1 ∷ 0 ∷ 0 ∷ edge ∷ [])) counts,
   )

@@ -1,7 +1,8 @@
 -- The dimensions of a grid, one after another, and the numbers of each.
-use Rattle.std.proofs.Common.{◌≡◌, ◌∙◌, ◌++◌, ℕ, zero, suc, ◌+◌, ◌<◌, ◌≤◌, Bool, List, [], ◌∷◌, add-one, ap, append_assoc, append-nil, arith, get_or, length, map, refl, subst, sym, take}
+use Rattle.std.proofs.Common.{◌≡◌, ◌∙◌, ◌++◌, ℕ, zero, suc, ◌+◌, ◌<◌, ◌≤◌, Bool, List, [], ◌∷◌, add-one, ap, arith, get_or, length, map, refl, subst, sym, take}
 use Rattle.std.specs.List.{AllByRecursion, AllZip, flat_map}
 use Rattle.std.proofs.lemmas.List.{get_or-map, length-map, take_all}
+use Rattle.std.proofs.Math.Seq.{take-suc}
 use Rattle.zarrs_chunk_axes.specs.Rectangular.{AreRectangular}
 use Rattle.zarrs_chunk_axes.specs.Rectilinear.{AreRectilinear}
 use Rattle.zarrs_chunk_base.specs.Dimension.{Dimension, InEach, IsChain, array_sizes, grid_sizes}
@@ -10,7 +11,8 @@ use Rattle.zarrs_chunk_base.specs.Greatest.{greatest}
 use Rattle.zarrs_chunk_base.specs.RunLength.{rectilinear_edges}
 use Rattle.zarrs_chunk_base.specs.declared.chunk_edge_lengths.ChunkEdgeLengths.{ChunkEdgeLengths}
 use Rattle.zarrs_chunk_base.proofs.InEach.{length_values}
-use Rattle.zarrs_chunk_prepared.specs.Prepared.{IsTableOf, Table, row}
+use Rattle.zarrs_chunk_prepared.proofs.Rows.{rows_append}
+use Rattle.zarrs_chunk_prepared.specs.Prepared.{AreShortest, IsShortest, IsTableOf, Table, row}
 use Rattle.zarrs_chunk_prepared.specs.seen.RunTable.{HaveSum, IsCut}
 use Rattle.zarrs_chunks.specs.GridKinds.{is_bounded}
 use Rattle.zarrs_chunks.specs.seen.Grids.{chained_in, grid_in, kind_in}
@@ -85,6 +87,13 @@ dimension_at bounded [] [] (_ ∷ _) chains cut sums k within = absurd cut
 dimension_at bounded [] (_ ∷ _) (_ ∷ _) chains cut sums k within = absurd cut
 dimension_at bounded (_ ∷ _) [] (_ ∷ _) chains cut sums k within = absurd cut
 
+-- the edges of one
+edges_are : (grid : ChunkGrid) (lengths : List ChunkEdgeLengths) (k : ℕ) (item : ChunkEdgeLengths)
+    → map rectilinear_edges lengths ≡ (grid_in grid).edges → k < length lengths → item ≡ get_or lengths k item
+    → get_or (grid_in grid).edges k (equal 0) ≡ rectilinear_edges item
+edges_are grid lengths k item told within is =
+    ap (λ es. get_or es k (equal 0)) (sym told) ∙ get_or-map rectilinear_edges lengths k item (equal 0) within ∙ ap rectilinear_edges (sym is)
+
 -- the one with these edges
 pub told_at : (grid : ChunkGrid) (lengths : List ChunkEdgeLengths) (k : ℕ) (item : ChunkEdgeLengths)
     → map rectilinear_edges lengths ≡ (grid_in grid).edges → k < length lengths → item ≡ get_or lengths k item
@@ -93,11 +102,19 @@ pub told_at : (grid : ChunkGrid) (lengths : List ChunkEdgeLengths) (k : ℕ) (it
 told_at grid lengths k item told within is =
     let ds = (grid_in grid).dimensions in
     let many : length lengths ≡ length (grid_in grid).edges = sym (length-map lengths rectilinear_edges) ∙ ap length told in
-    let edges : get_or (grid_in grid).edges k (equal 0) ≡ rectilinear_edges item =
-    ap (λ es. get_or es k (equal 0)) (sym told) ∙ get_or-map rectilinear_edges lengths k item (equal 0) within ∙ ap rectilinear_edges (sym is) in
-    subst (λ e. IsAt (is_bounded (kind_in grid)) ds (get_or (array_sizes ds) k 0) (get_or (grid_sizes ds) k 0) e k) edges
+    subst (λ e. IsAt (is_bounded (kind_in grid)) ds (get_or (array_sizes ds) k 0) (get_or (grid_sizes ds) k 0) e k)
+    (edges_are grid lengths k item told within is)
     (dimension_at (is_bounded (kind_in grid)) ds (array_sizes ds) (grid_in grid).edges (chained_in grid) (cut_in grid) (sums_in grid) k
     (omega (arith, many)))
+
+-- and its edges are the next ones
+pub next_edges : (grid : ChunkGrid) (lengths : List ChunkEdgeLengths) (k : ℕ) (item : ChunkEdgeLengths)
+    → map rectilinear_edges lengths ≡ (grid_in grid).edges → k < length lengths → item ≡ get_or lengths k item
+    → take (suc k) (grid_in grid).edges ≡ take k (grid_in grid).edges ++ rectilinear_edges item ∷ []
+next_edges grid lengths k item told within is =
+    let many : length lengths ≡ length (grid_in grid).edges = sym (length-map lengths rectilinear_edges) ∙ ap length told in
+    take-suc (grid_in grid).edges k (equal 0) (omega (arith, many))
+    ∙ ap (λ e. take k (grid_in grid).edges ++ e ∷ []) (edges_are grid lengths k item told within is)
 
 -- there are as many edges as dimensions
 pub as_many_edges : (grid : ChunkGrid) (lengths : List ChunkEdgeLengths) → map rectilinear_edges lengths ≡ (grid_in grid).edges
@@ -108,9 +125,10 @@ as_many_edges grid lengths told =
     (cut_in grid)
 
 -- the numbers of the dimensions so far
-abbrev pub AreSoFar : (mark count : ℕ) → List Dimension → ℕ → List ℕ → Type 0
-AreSoFar mark count ds k numbers =
-    (tables : List Table) × AllZip IsTableOf (take k ds) tables × (numbers ≡ mark ∷ count ∷ flat_map row tables)
+abbrev pub AreSoFar : (mark count : ℕ) → List Dimension → List DimensionEdges → ℕ → List ℕ → Type 0
+AreSoFar mark count ds edges k numbers =
+    (tables : List Table) × AllZip IsTableOf (take k ds) tables × AreShortest (take k ds) (take k edges) tables
+    × (numbers ≡ mark ∷ count ∷ flat_map row tables)
 
 -- of one more
 both_append : (ds : List Dimension) (tables : List Table) (d : Dimension) (t : Table) → AllZip IsTableOf ds tables → IsTableOf d t
@@ -120,17 +138,23 @@ both_append (e ∷ ds) (u ∷ tables) d t are is = (are.0, both_append ds tables
 both_append [] (_ ∷ _) d t are is = absurd are
 both_append (_ ∷ _) [] d t are is = absurd are
 
-rows_append : (tables : List Table) (t : Table) → flat_map row (tables ++ t ∷ []) ≡ flat_map row tables ++ row t
-rows_append [] t = append-nil (row t)
-rows_append (u ∷ tables) t = ap (λ rest. row u ++ rest) (rows_append tables t) ∙ sym (append_assoc (row u) (flat_map row tables) (row t))
+shortest_append : (ds : List Dimension) (edges : List DimensionEdges) (tables : List Table) (d : Dimension) (e : DimensionEdges) (t : Table)
+    → AreShortest ds edges tables → IsShortest d e t → AreShortest (ds ++ d ∷ []) (edges ++ e ∷ []) (tables ++ t ∷ [])
+shortest_append [] [] [] d e t are is = (is, tt)
+shortest_append (_ ∷ ds) (_ ∷ edges) (_ ∷ tables) d e t are is = (are.0, shortest_append ds edges tables d e t are.1 is)
+shortest_append _ _ _ d e t are is = absurd are
 
-pub one_table_more : (mark count : ℕ) (ds : List Dimension) (k : ℕ) (numbers after : List ℕ) (d : Dimension) → AreSoFar mark count ds k numbers
-    → take (suc k) ds ≡ take k ds ++ d ∷ [] → (t : Table) × IsTableOf d t × (after ≡ numbers ++ row t) → AreSoFar mark count ds (k + 1) after
-one_table_more mark count ds k numbers after d (tables, are, is) next (t, of, appended) = (
-  tables ++ t ∷ [],
-  subst (λ some. AllZip IsTableOf some (tables ++ t ∷ [])) (sym (ap (λ n. take n ds) (add-one k) ∙ next)) (both_append (take k ds) tables d t are of),
-  appended ∙ ap (λ ns. ns ++ row t) is ∙ ap (λ ns. mark ∷ count ∷ ns) (sym (rows_append tables t)),
-)
+pub one_table_more : (mark count : ℕ) (ds : List Dimension) (edges : List DimensionEdges) (k : ℕ) (numbers after : List ℕ) (d : Dimension)
+    (e : DimensionEdges) → AreSoFar mark count ds edges k numbers → take (suc k) ds ≡ take k ds ++ d ∷ [] → take (suc k) edges ≡ take k edges ++ e ∷ []
+    → (t : Table) × IsTableOf d t × IsShortest d e t × (after ≡ numbers ++ row t) → AreSoFar mark count ds edges (k + 1) after
+one_table_more mark count ds edges k numbers after d e (tables, are, short, is) next next_edges (t, of, is_short, appended) =
+    let more : take (k + 1) ds ≡ take k ds ++ d ∷ [] = ap (λ n. take n ds) (add-one k) ∙ next in
+    let more_edges : take (k + 1) edges ≡ take k edges ++ e ∷ [] = ap (λ n. take n edges) (add-one k) ∙ next_edges in (
+      tables ++ t ∷ [],
+      rw more (both_append (take k ds) tables d t are of),
+      rw (more, more_edges) (shortest_append (take k ds) (take k edges) tables d e t short is_short),
+      appended ∙ ap (λ ns. ns ++ row t) is ∙ ap (λ ns. mark ∷ count ∷ ns) (sym (rows_append tables t)),
+    )
 
 as_many_tables : (ds : List Dimension) (tables : List Table) → AllZip IsTableOf ds tables → length ds ≡ length tables
 as_many_tables [] [] are = refl
@@ -139,9 +163,14 @@ as_many_tables [] (_ ∷ _) are = absurd are
 as_many_tables (_ ∷ _) [] are = absurd are
 
 -- and of all
-pub all_tables : (mark count : ℕ) (ds : List Dimension) (k : ℕ) (numbers : List ℕ) → AreSoFar mark count ds k numbers → length ds ≤ k
-    → count ≡ length ds → (tables : List Table) × AllZip IsTableOf ds tables × (numbers ≡ mark ∷ length tables ∷ flat_map row tables)
-all_tables mark count ds k numbers (tables, are, is) all counts =
+pub all_tables : (mark count : ℕ) (ds : List Dimension) (edges : List DimensionEdges) (k : ℕ) (numbers : List ℕ)
+    → AreSoFar mark count ds edges k numbers → length ds ≤ k → length edges ≤ k → count ≡ length ds
+    → (tables : List Table) × AllZip IsTableOf ds tables × AreShortest ds edges tables × (numbers ≡ mark ∷ length tables ∷ flat_map row tables)
+all_tables mark count ds edges k numbers (tables, are, short, is) all all_edges counts =
     let whole : AllZip IsTableOf ds tables = subst (λ some. AllZip IsTableOf some tables) (take_all k ds all) are in
-    let long : count ≡ length tables = counts ∙ as_many_tables ds tables whole in
-    (tables, whole, is ∙ ap (λ n. mark ∷ n ∷ flat_map row tables) long)
+    let long : count ≡ length tables = counts ∙ as_many_tables ds tables whole in (
+      tables,
+      whole,
+      rw (take_all k ds all, take_all k edges all_edges) at short,
+      is ∙ ap (λ n. mark ∷ n ∷ flat_map row tables) long,
+    )

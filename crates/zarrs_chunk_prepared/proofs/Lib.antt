@@ -7,3 +7,4 @@ pub mod Rows
 pub mod RunTables
 pub mod Tables
 pub mod Written
+pub mod Lengths

@@ -1,6 +1,6 @@
 -- The numbers of a dimension, one list of them behind another.
-use Rattle.std.proofs.Common.{◌≡◌, ◌∙◌, ℕ, ◌<◌, List, [], ◌∷◌, ◌++◌, ap, append-nil, append_assoc, arith, drop, get_or, length, map, sym, take}
-use Rattle.std.proofs.lemmas.List.{map-append}
+use Rattle.std.proofs.Common.{◌≡◌, ◌∙◌, ℕ, ◌<◌, List, [], ◌∷◌, ◌++◌, ap, append-nil, append_assoc, arith, drop, get_or, length, map, refl, sym, take}
+use Rattle.std.proofs.lemmas.List.{length-map, map-append, take-append-drop}
 use Rattle.std.proofs.Math.Seq.{drop-append_seam, take-append_seam}
 use Rattle.std.specs.List.{IsSplitAt}
 use Rattle.std.specs.List.{AllByRecursion, AllZip, flat_map}
@@ -51,6 +51,41 @@ is_read t behind numbers head after_head starts after_starts chunks after_chunks
       is_rest = after;
     }
 
+-- the two parts of what is split
+pub parts : (all front back : List ℕ) (n : ℕ) → IsSplitAt all n front back → all ≡ front ++ back
+parts all front back n (_, is_front, is_back, _, _) = sym (rw (is_front, is_back) (take-append-drop n all))
+
+-- the first two numbers, and the first four
+two : (head : List ℕ) → length head ≡ 2 → head ≡ get_or head 0 0 ∷ get_or head 1 0 ∷ []
+two (a ∷ b ∷ []) long = refl
+two _ long = absurd (omega arith)
+
+four : (head : List ℕ) → length head ≡ 4 → head ≡ get_or head 0 0 ∷ get_or head 1 0 ∷ get_or head 2 0 ∷ get_or head 3 0 ∷ []
+four (a ∷ b ∷ c ∷ d ∷ []) long = refl
+four _ long = absurd (omega arith)
+
+-- what was read of a dimension's numbers is all that stands before those that are left
+pub is_row : (numbers head after_head starts after_starts chunks after_chunks edges rest : List ℕ) → IsSplitAt numbers 4 head after_head
+    → IsSplitAt after_head (get_or head 3 0) starts after_starts → IsSplitAt after_starts (get_or head 3 0) chunks after_chunks
+    → IsSplitAt after_chunks (get_or head 3 0) edges rest
+    → numbers ≡ row (record {
+      grid_size = get_or head 0 0;
+      last_index = get_or head 1 0;
+      last_chunk = get_or head 2 0;
+      starts = starts;
+      chunks = chunks;
+      edges = edges;
+    }) ++ rest
+is_row numbers head after_head starts after_starts chunks after_chunks edges rest first second third fourth =
+    let runs : length starts ≡ get_or head 3 0 = second.3 in
+    let three : after_head ≡ (starts ++ (chunks ++ edges)) ++ rest =
+    parts after_head starts after_starts _ second
+    ∙ ap (λ more. starts ++ more) (parts after_starts chunks after_chunks _ third ∙ ap (λ more. chunks ++ more) (parts after_chunks edges rest _ fourth))
+    ∙ sym (append_assoc starts (chunks ++ edges) rest ∙ ap (λ more. starts ++ more) (append_assoc chunks edges rest)) in
+    parts numbers head after_head 4 first ∙ ap (λ h. h ++ after_head) (four head first.3)
+    ∙ ap (λ more. get_or head 0 0 ∷ get_or head 1 0 ∷ get_or head 2 0 ∷ get_or head 3 0 ∷ more) three
+    ∙ ap (λ n. get_or head 0 0 ∷ get_or head 1 0 ∷ get_or head 2 0 ∷ n ∷ ((starts ++ (chunks ++ edges)) ++ rest)) (sym runs)
+
 -- those that are read so far, and those that are left
 abbrev pub AreReadSoFar : List PreparedAxis → List ℕ → List Table → Type 0
 AreReadSoFar axes rest tables =
@@ -76,6 +111,10 @@ all_read axes rest tables none ([], so_far, long, is) = sym (append-nil (map tab
 all_read axes rest tables none (t ∷ left, so_far, long, is) =
     absurd (let some : length rest ≡ length (flat_map row (t ∷ left)) = ap length is in omega arith)
 
+pub none_behind : (numbers rest : List ℕ) → length rest ≡ 0 → numbers ++ rest ≡ numbers
+none_behind numbers [] none = append-nil numbers
+none_behind numbers (_ ∷ _) none = absurd (omega arith)
+
 -- where some is left, it is a dimension's
 pub none_left : (axes : List PreparedAxis) (rest : List ℕ) (tables : List Table) → 0 < length rest → AreReadSoFar axes rest tables
     → ((t : Table) (more : List ℕ) → HasAsMany t → rest ≡ row t ++ more → ⊥) → ⊥
@@ -88,6 +127,33 @@ all_long [] [] are = tt
 all_long (d ∷ ds) (t ∷ tables) (is, are) = (is.long, all_long ds tables are)
 all_long [] (_ ∷ _) are = absurd are
 all_long (_ ∷ _) [] are = absurd are
+
+-- so have those of dimensions that were read
+pub axes_long : (axes : List PreparedAxis) → AllByRecursion HasAsMany (map table_of axes)
+axes_long [] = tt
+axes_long (axis ∷ axes) = (record { chunks = axis.chunks_long; edges = axis.edges_long }, axes_long axes)
+
+-- and those of one more behind them
+pub rows_append : (tables : List Table) (t : Table) → flat_map row (tables ++ t ∷ []) ≡ flat_map row tables ++ row t
+rows_append [] t = append-nil (row t)
+rows_append (u ∷ tables) t = ap (λ rest. row u ++ rest) (rows_append tables t) ∙ sym (append_assoc (row u) (flat_map row tables) (row t))
+
+pub one_row_more : (axes : List PreparedAxis) (axis : PreparedAxis) (numbers rest behind : List ℕ)
+    → numbers ≡ flat_map row (map table_of axes) ++ rest → rest ≡ row (table_of axis) ++ behind
+    → numbers ≡ flat_map row (map table_of (axes ++ axis ∷ [])) ++ behind
+one_row_more axes axis numbers rest behind so_far next =
+    let rows = flat_map row (map table_of axes) in
+    so_far ∙ ap (λ more. rows ++ more) next ∙ sym (append_assoc rows (row (table_of axis)) behind)
+    ∙ ap (λ all. all ++ behind)
+    (sym (ap (flat_map row) (map-append table_of axes (axis ∷ [])) ∙ rows_append (map table_of axes) (table_of axis)))
+
+-- a mark, how many there are, and their numbers
+pub are_tables : (mark : ℕ) (axes : List PreparedAxis) (numbers head rest : List ℕ) → IsSplitAt numbers 2 head rest → get_or head 0 0 ≡ mark
+    → get_or head 1 0 ≡ length axes → rest ≡ flat_map row (map table_of axes)
+    → numbers ≡ mark ∷ length (map table_of axes) ∷ flat_map row (map table_of axes)
+are_tables mark axes numbers head rest split is_mark counted is_rest =
+    parts numbers head rest 2 split ∙ ap (λ h. h ++ rest) (two head split.3) ∙ ap (λ m. m ∷ get_or head 1 0 ∷ rest) is_mark
+    ∙ ap (λ n. mark ∷ n ∷ rest) (counted ∙ sym (length-map axes table_of)) ∙ ap (λ more. mark ∷ length (map table_of axes) ∷ more) is_rest
 
 -- the first numbers of a grid, and those behind them
 pub read_head : (mark : ℕ) (tables : List Table) (numbers head rest : List ℕ) → numbers ≡ mark ∷ length tables ∷ flat_map row tables

@@ -6,21 +6,24 @@ use Rattle.std.proofs.lemmas.List.{get_or_append_left, get_or_default, length-ap
 use Rattle.std.proofs.Math.Seq.{get_or-append_seam}
 use Rattle.std.specs.declared.num.NonZeroU64.{NonZeroU64}
 use Rattle.std.proofs.lemmas.Nat.{div-mul-add}
-use Rattle.std.proofs.Math.Nat.{mod-add-div'}
+use Rattle.std.proofs.Math.Nat.{mod-add-div', mul-pos}
 use Rattle.std.specs.List.{sum}
 use Rattle.std.specs.List.Sorted.{IsNonDecreasing}
 use Rattle.zarrs_chunk_axes.specs.Listed.{IsListed}
 use Rattle.zarrs_chunk_axes.specs.seen.ListedEdges.{end_is}
 use Rattle.zarrs_chunk_axes.proofs.ListedAxes.{sums_rise as edge_sums_rise}
 use Rattle.zarrs_chunk_base.specs.Dimension.{Dimension, Holds, IsChain}
+use Rattle.zarrs_chunk_base.specs.DimensionEdges.{listed}
 use Rattle.zarrs_chunk_base.specs.Greatest.{greatest}
+use Rattle.zarrs_chunk_runs.specs.Forms.{HasRuns}
 use Rattle.zarrs_chunk_runs.specs.Runs.{IsChunkOf, IsRunOf, edges_of_runs, run_of}
 use Rattle.zarrs_chunk_runs.specs.declared.run_edges.RunEdges.{RunEdges}
 use Rattle.zarrs_chunk_runs.specs.seen.RunEdges.{expanded, runs_of}
 use Rattle.zarrs_chunk_runs.specs.lemmas.Running.{IsFirstAbove, count_of_run, ends_of, size_of}
+use Rattle.zarrs_chunk_runs.proofs.Forms.{has_kept_runs}
 use Rattle.zarrs_chunk_runs.proofs.Places.{chunk_end_of_run, chunks_fit, edge_found, end_of_run, home_found, length_ends, start_found}
 use Rattle.zarrs_chunk_runs.proofs.RunSums.{chunk_end_at, count_of_edges, end_at, sum_of_edges, sums_rise}
-use Rattle.zarrs_chunk_prepared.specs.Prepared.{IsLastUpTo, IsOfRun, IsTableOf, LiesInRun, Table, row}
+use Rattle.zarrs_chunk_prepared.specs.Prepared.{IsLastUpTo, IsOfRun, IsShortest, IsTableOf, LiesInRun, Table, row}
 use Rattle.zarrs_chunk_prepared.specs.seen.RunTable.{IsRunTable}
 
 -- more runs have no smaller sum, and no fewer chunks
@@ -251,6 +254,27 @@ module _ (runs : List (ℕ × ℕ)) (starts chunks edges : List ℕ) (are : IsRu
           ⊎_elim (λ (behind : length (edges_of_runs runs) - 1 < chunk). omega arith) (λ (none : length starts ≡ 0). none_starts none) past;
     }
 
+-- a run has some elements
+run_has_some : (runs : List (NonZeroU64 × NonZeroU64)) (k : ℕ) → k < length (map run_of runs)
+    → 0 < (get_or (map run_of runs) k (0, 0)).0 * (get_or (map run_of runs) k (0, 0)).1
+run_has_some [] k within = absurd (omega arith)
+run_has_some (run ∷ runs) zero within = mul-pos run.0.ok run.1.ok
+run_has_some (run ∷ runs) (suc k) within = run_has_some runs k (omega arith)
+
+-- no run more than there must be
+is_shortest : (kept : RunEdges) (starts chunks edges : List ℕ) → IsRunTable (runs_of kept) (length (runs_of kept)) starts chunks edges
+    → (d : Dimension) (t : Table) → t.starts ≡ starts → t.edges ≡ edges → IsShortest d (listed (expanded kept)) t
+is_shortest kept starts chunks edges are d t is_starts is_edges = record {
+  runs = subst (HasRuns (expanded kept)) (sym (ap length is_starts ∙ are.starts_long)) (has_kept_runs kept);
+  later = λ run within.
+      let more : run + 1 < length (runs_of kept) = omega (arith, ap length is_starts, are.starts_long) in
+      let size = run_has_some kept.runs.items run (omega arith) in
+      rw is_starts (omega (arith, are.is_start run (omega arith), are.is_start (run + 1) more, next_start (runs_of kept) run _ _ (omega arith) refl));
+  differ = λ run within same.
+      let more : run + 1 < length (runs_of kept) = omega (arith, ap length is_starts, are.starts_long) in
+      kept.merged run more (sym (are.is_edge run (omega arith)) ∙ rw is_edges at same ∙ are.is_edge (run + 1) more);
+}
+
 -- some edges have some
 some_length : (edges : List ℕ) → edges ≢ [] → 0 < length edges
 some_length [] some = absurd (some refl)
@@ -261,12 +285,13 @@ pub appended_runs : (kept : RunEdges) (starts chunks edges before after : List �
     → count ≡ d.grid_size → IsListed d size (expanded kept) → expanded kept ≢ [] → sum (expanded kept) ≤ greatest
     → IsRunTable (runs_of kept) (length (runs_of kept)) starts chunks edges
     → after ≡ before ++ (count ∷ (sum (expanded kept) - 1) ∷ (length (expanded kept) - 1) ∷ length (runs_of kept) ∷ (starts ++ (chunks ++ edges)))
-    → (t : Table) × IsTableOf d t × (after ≡ before ++ row t)
+    → (t : Table) × IsTableOf d t × IsShortest d (listed (expanded kept)) t × (after ≡ before ++ row t)
 appended_runs kept starts chunks edges before after d size count chain counts is some fits are appended =
     let long = some_length (expanded kept) some in
     let more = chunks_at_most kept.runs.items in (
       table (runs_of kept) starts chunks edges are (positive_edge kept.runs.items) (omega arith) fits d size count chain counts is,
       is_table (runs_of kept) starts chunks edges are (positive_edge kept.runs.items) (omega arith) fits d size count chain counts is,
+      is_shortest kept starts chunks edges are d _ refl refl,
       appended
           ∙ ap (λ n. before ++ (count ∷ (sum (expanded kept) - 1) ∷ (length (expanded kept) - 1) ∷ n ∷ (starts ++ (chunks ++ edges)))) (sym are.starts_long),
     )

@@ -1,11 +1,13 @@
 -- A chunk grid as numbers that a caller keeps. The layout is this library's own.
-use Rattle.std.specs.Prelude.{◌≡◌, ◌⊎◌, ℕ, ◌+◌, ◌-◌, ◌*◌, ◌<◌, ◌≤◌, IsTrue, List, ◌∷◌, ◌++◌, length, min, slice_index_or}
-use Rattle.std.specs.List.{AllZip, flat_map}
+use Rattle.std.specs.Prelude.{◌≡◌, ◌≢◌, ◌⊎◌, ℕ, ◌+◌, ◌-◌, ◌*◌, ◌<◌, ◌≤◌, IsTrue, List, [], ◌∷◌, ◌++◌, length, min, slice_index_or}
+use Rattle.std.specs.List.{AllByRecursion, AllZip, flat_map}
 use Rattle.std.specs.List.Sorted.{IsNonDecreasing}
 use Rattle.zarrs_chunk_axes.specs.LookUp.{HasRange}
 use Rattle.zarrs_chunk_base.specs.Dimension.{Dimension, Holds, IsChain}
+use Rattle.zarrs_chunk_base.specs.DimensionEdges.{DimensionEdges, equal, listed}
 use Rattle.zarrs_chunk_base.specs.Greatest.{greatest}
 use Rattle.zarrs_chunk_base.specs.Grid.{Grid}
+use Rattle.zarrs_chunk_runs.specs.Forms.{HasRuns}
 
 -- A dimension: how many chunks are counted; the last index that lies in a chunk, and the last number that is one; and runs of chunks of one edge:
 -- where the first chunk of each starts, which number it has, and the edge.
@@ -75,3 +77,32 @@ grid_mark = 8818455381055531364
 abbrev pub IsPreparedGrid : List ℕ → Grid → Type 0
 IsPreparedGrid numbers grid =
     (tables : List Table) × AllZip IsTableOf grid.dimensions tables × (numbers ≡ grid_mark ∷ length tables ∷ flat_map row tables)
+
+-- the numbers are a mark, and tables one after another, whatever these say
+abbrev pub AreTables : List ℕ → List Table → Type 0
+AreTables numbers tables = AllByRecursion HasAsMany tables × (numbers ≡ grid_mark ∷ length tables ∷ flat_map row tables)
+
+-- ---- the numbers that are written
+
+-- How many runs a dimension has: one where one edge is that of all chunks, or none where there is no chunk; and those of listed edges.
+abbrev pub HasRunCount : Dimension → (count : ℕ) → DimensionEdges → Type 0
+HasRunCount d count (equal edge) = ((count ≡ 1) × IsTrue (d.has_chunk 0)) ⊎ ((count ≡ 0) × ¬ IsTrue (d.has_chunk 0))
+HasRunCount d count (listed edges) = HasRuns edges count
+
+-- It has so many. Each begins later than the one before, and has another edge.
+pub record IsShortest (d : Dimension) (edges : DimensionEdges) (t : Table) : Type 0 where
+  pub runs : HasRunCount d (length t.starts) edges
+  pub later : (run : ℕ) → run + 1 < length t.starts → slice_index_or t.starts run 0 < slice_index_or t.starts (run + 1) 0
+  pub differ : (run : ℕ) → run + 1 < length t.starts → slice_index_or t.edges run 0 ≢ slice_index_or t.edges (run + 1) 0
+
+-- so it is in each dimension
+abbrev pub AreShortest : List Dimension → List DimensionEdges → List Table → Type 0
+AreShortest [] [] [] = Unit {0}
+AreShortest (d ∷ ds) (e ∷ edges) (t ∷ tables) = IsShortest d e t × AreShortest ds edges tables
+AreShortest _ _ _ = ⊥
+
+-- the numbers are those of the grid, and no more than its runs need
+abbrev pub IsWrittenGrid : List ℕ → Grid → Type 0
+IsWrittenGrid numbers grid =
+    (tables : List Table) × AllZip IsTableOf grid.dimensions tables × AreShortest grid.dimensions grid.edges tables
+    × (numbers ≡ grid_mark ∷ length tables ∷ flat_map row tables)

@@ -19,9 +19,13 @@ abbrev pub encoding_numbers : Encoding → List ℕ
 encoding_numbers encoding =
     encoding_mark ∷ kind_number encoding ∷ separator_byte (separator_of encoding) ∷ suffix_of encoding
 
+-- each number is a byte
+abbrev pub AreBytes : List ℕ → Type 0
+AreBytes numbers = (k : ℕ) → k < length numbers → slice_index_or numbers k 0 < 256
+
 -- the numbers are those of the encoding, whose suffix is a text that doesn't end in a slash
 pub record IsPreparedEncoding (numbers : List ℕ) (encoding : Encoding) : Type 0 where
   pub are : numbers ≡ encoding_numbers encoding
-  pub bytes : (k : ℕ) → k < length (suffix_of encoding) → slice_index_or (suffix_of encoding) k 0 < 256
+  pub bytes : AreBytes (suffix_of encoding)
   pub utf8 : IsUtf8 (suffix_of encoding)
   pub no_slash : ¬ EndsInSlash (suffix_of encoding)

@@ -1,11 +1,11 @@
 //! A chunk key encoding as numbers.
-ghost use Rattle.std.specs.Prelude.{◌≡◌, ◌≢◌, ◌++◌, ◌<◌, ℕ, IfOk, IsUtf8, MatchOption, OnOk, length, slice_index_or};
+ghost use Rattle.std.specs.Prelude.{◌≡◌, ◌≢◌, ◌++◌, IfOk, IfSome, IsUtf8, MatchOption, OnOk};
 ghost use Rattle.zarrs_chunk_base.specs.ChunkKeySeparator.{separator_byte};
 ghost use Rattle.zarrs_chunk_base.specs.StoreKey.{EndsInSlash};
 ghost use Rattle.zarrs_chunk_base.specs.declared.chunk_key_separator.ChunkKeySeparator.{ChunkKeySeparator as AnySeparator};
 ghost use Rattle.zarrs_chunk_keys.specs.ChunkKey.{Encoding, suffixed_keys};
 ghost use Rattle.zarrs_chunk_keys.specs.seen.Encodings.{encoding_in};
-ghost use Rattle.zarrs_chunk_prepared.specs.PreparedEncoding.{IsPreparedEncoding, kind_number};
+ghost use Rattle.zarrs_chunk_prepared.specs.PreparedEncoding.{AreBytes, IsPreparedEncoding, kind_number};
 
 use std::alloc::{AllocError, Global};
 use zarrs_chunk_base::ChunkKeySeparator;
@@ -36,8 +36,11 @@ pub fn prepare_encoding(alloc: Global, encoding: &ChunkKeyEncoding) -> Result<Ve
 /// # Errors
 /// Out of memory.
 pub fn read_encoding(alloc: Global, numbers: &[u64]) -> Result<Option<ChunkKeyEncoding>, AllocError>
-    ensures { IfOk result (λ found. (encoding : Encoding) → IsPreparedEncoding numbers.now encoding
+    ensures encoding { IfOk result (λ found. (encoding : Encoding)
+        → IsPreparedEncoding numbers.now encoding
         → MatchOption found ⊥ (λ read. encoding_in read ≡ encoding)) }
+    ensures numbers { IfOk result (λ found. IfSome found (λ read.
+        IsPreparedEncoding numbers.now (encoding_in read))) }
 {
     let Some((head, suffix)) = numbers.split_at_checked(3) else {
         return Ok(None);
@@ -69,10 +72,10 @@ fn read_suffixed(
     separator: ChunkKeySeparator,
     numbers: &[u64],
 ) -> Result<Option<ChunkKeyEncoding>, AllocError>
-    ensures { IfOk result (λ found.
-        ((k : ℕ) → k < length numbers.now → slice_index_or numbers.now k 0 < 256)
-        → IsUtf8 numbers.now → (¬ EndsInSlash numbers.now)
-        → MatchOption found ⊥ (λ read. encoding_in read ≡ suffixed_keys separator numbers.now)) }
+    ensures { IfOk result (λ found. MatchOption found
+        (¬ (AreBytes numbers.now × IsUtf8 numbers.now × ¬ EndsInSlash numbers.now))
+        (λ read. (AreBytes numbers.now × IsUtf8 numbers.now × ¬ EndsInSlash numbers.now)
+        × (encoding_in read ≡ suffixed_keys separator numbers.now))) }
 {
     let Some(bytes) = bytes_of(alloc, numbers)? else {
         return Ok(None);
@@ -92,9 +95,8 @@ fn read_suffixed(
 /// # Errors
 /// Out of memory.
 fn bytes_of(alloc: Global, numbers: &[u64]) -> Result<Option<Vec<u8>>, AllocError>
-    ensures { IfOk result (λ found. MatchOption found
-        (¬ ((k : ℕ) → k < length numbers.now → slice_index_or numbers.now k 0 < 256))
-        (λ bytes. bytes.items ≡ numbers.now)) }
+    ensures { IfOk result (λ found. MatchOption found (¬ AreBytes numbers.now)
+        (λ bytes. AreBytes numbers.now × (bytes.items ≡ numbers.now))) }
 {
     let mut bytes = Vec::new(alloc);
     for number in numbers {
@@ -112,7 +114,7 @@ fn bytes_of(alloc: Global, numbers: &[u64]) -> Result<Option<Vec<u8>>, AllocErro
 /// Out of memory.
 fn append_bytes(numbers: &mut Vec<u64>, bytes: &[u8]) -> Result<(), AllocError>
     ensures appended { OnOk result (numbers.new.items ≡ numbers.old.items ++ bytes.now) }
-    ensures fit { (k : ℕ) → k < length bytes.now → slice_index_or bytes.now k 0 < 256 }
+    ensures fit { AreBytes bytes.now }
 {
     for byte in bytes {
         numbers.push(u64::from(*byte))?;

@@ -1,10 +1,10 @@
 //! A prepared grid, and what it answers of lists of numbers.
-ghost use Rattle.std.specs.Prelude.{◌≡◌, ◌≢◌, IfErr, IfOk, MatchOption, MatchResult, OnErr, OnOk, cond, false, length};
+ghost use Rattle.std.specs.Prelude.{◌≡◌, ◌≢◌, [], ◌∷◌, IfErr, IfOk, List, MatchOption, MatchResult, OnErr, OnOk, cond, false, length};
 ghost use Rattle.zarrs_chunk_base.specs.Grid.{Grid};
 ghost use Rattle.zarrs_chunk_base.specs.Dimension.{grid_sizes};
-ghost use Rattle.zarrs_chunk_base.specs.Refusal.{OrMemory, TellsLengths};
-ghost use Rattle.zarrs_chunk_prepared.specs.LookedUp.{AreAsLong, AreRoomForHome, HasNoCover, IsCoverOf, IsHomeIn};
-ghost use Rattle.zarrs_chunk_prepared.specs.Prepared.{IsPreparedGrid};
+ghost use Rattle.zarrs_chunk_base.specs.Refusal.{MatchRefusal, TellsLengths};
+ghost use Rattle.zarrs_chunk_prepared.specs.LookedUp.{AreAsLong, AreRoomForHome, HasNoCover, IsCoverOf, IsHomeIn, TellsFirstOther};
+ghost use Rattle.zarrs_chunk_prepared.specs.Prepared.{AreTables, IsPreparedGrid, Table};
 ghost use Rattle.zarrs_chunks.specs.Subsets.{HasNoBox, HasNoHome, Spans};
 
 use crate::axis::PreparedAxis;
@@ -25,10 +25,10 @@ pub struct PreparedGrid<'a> {
 }
 
 impl<'a> PreparedGrid<'a> {
-    ghost use Rattle.zarrs_chunk_prepared.specs.seen.PreparedGrid.{IsReadOf, width_of};
+    ghost use Rattle.zarrs_chunk_prepared.specs.seen.PreparedGrid.{IsReadOf, tables_of, width_of};
 
-    /// The grid that numbers tell, for about so many look-ups. `None` where they aren't the numbers of a grid: this is seen of the first
-    /// number and of how many there are, and nothing else of them is tested.
+    /// The grid that numbers tell, for about so many look-ups. `None` where the first number isn't the mark, or there are more or fewer than the
+    /// dimensions have; nothing else of them is tested.
     ///
     /// # Errors
     /// Out of memory.
@@ -37,8 +37,11 @@ impl<'a> PreparedGrid<'a> {
         numbers: &'a [u64],
         look_ups: usize,
     ) -> Result<Option<PreparedGrid<'a>>, AllocError>
-        ensures { IfOk result (λ found. (grid : Grid) → IsPreparedGrid numbers.now grid
+        ensures grid { IfOk result (λ found. (grid : Grid) → IsPreparedGrid numbers.now grid
             → MatchOption found ⊥ (IsReadOf grid)) }
+        ensures tables { IfOk result (λ found. MatchOption found
+            ((tables : List Table) → ¬ AreTables numbers.now tables)
+            (λ prepared. AreTables numbers.now (tables_of prepared))) }
     {
         let Some((head, rest)) = numbers.split_at_checked(2) else {
             return Ok(None);
@@ -75,7 +78,9 @@ impl<'a> PreparedGrid<'a> {
     ) -> Result<bool, IncompatibleDimensionalityError>
         ensures lengths { MatchResult result
             (λ _. AreRoomForHome (width_of self.now) index.now chunk.old place.old)
-            (λ _. ¬ AreRoomForHome (width_of self.now) index.now chunk.old place.old) }
+            (λ error. (¬ AreRoomForHome (width_of self.now) index.now chunk.old place.old)
+            × TellsFirstOther (width_of self.now)
+            (length index.now ∷ length chunk.old ∷ length place.old ∷ []) error) }
         ensures home { (grid : Grid) → IsReadOf grid self.now → IfOk result (λ found. cond found
             (IsHomeIn grid.dimensions index.now chunk.new place.new)
             (HasNoHome grid.dimensions index.now)) }
@@ -108,7 +113,9 @@ impl<'a> PreparedGrid<'a> {
     ) -> Result<bool, IncompatibleDimensionalityError>
         ensures lengths { MatchResult result
             (λ _. AreAsLong (width_of self.now) chunk.now origin.old shape.old)
-            (λ _. ¬ AreAsLong (width_of self.now) chunk.now origin.old shape.old) }
+            (λ error. (¬ AreAsLong (width_of self.now) chunk.now origin.old shape.old)
+            × TellsFirstOther (width_of self.now)
+            (length chunk.now ∷ length origin.old ∷ length shape.old ∷ []) error) }
         ensures spans { (grid : Grid) → IsReadOf grid self.now → IfOk result (λ found. cond found
             (Spans grid.dimensions chunk.now chunk.now
             (record { start = origin.new; shape = shape.new }))
@@ -140,8 +147,11 @@ impl<'a> PreparedGrid<'a> {
     ) -> Result<bool, Refusal<IncompatibleDimensionalityError>>
         ensures lengths { IfOk result (λ _.
             AreAsLong (width_of self.now) elements.now.start first.old counts.old) }
-        ensures refused { IfErr result (OrMemory (λ _.
-            ¬ AreAsLong (width_of self.now) elements.now.start first.old counts.old)) }
+        ensures refused { IfErr result (λ refusal. MatchRefusal refusal
+            (λ error. (¬ AreAsLong (width_of self.now) elements.now.start first.old counts.old)
+            × TellsFirstOther (width_of self.now)
+            (length elements.now.start ∷ length first.old ∷ length counts.old ∷ []) error)
+            (λ _. AreAsLong (width_of self.now) elements.now.start first.old counts.old)) }
         ensures cover { (grid : Grid) → IsReadOf grid self.now → IfOk result (λ found. cond found
             (IsCoverOf grid.dimensions elements.now
             (record { start = first.new; shape = counts.new }))
@@ -170,7 +180,8 @@ impl<'a> PreparedGrid<'a> {
     /// The list has another length than there are dimensions. Nothing is written.
     pub fn write_grid_shape(&self, sizes: &mut [u64]) -> Result<(), IncompatibleDimensionalityError>
         ensures lengths { MatchResult result (λ _. length sizes.old ≡ width_of self.now)
-            (λ _. length sizes.old ≢ width_of self.now) }
+            (λ error. (length sizes.old ≢ width_of self.now)
+            × TellsLengths (length sizes.old) (width_of self.now) error) }
         ensures sizes { (grid : Grid) → IsReadOf grid self.now
             → OnOk result (sizes.new ≡ grid_sizes grid.dimensions) }
         ensures untouched { OnErr result (sizes.new ≡ sizes.old) }
@@ -193,8 +204,9 @@ impl<'a> PreparedGrid<'a> {
         ensures { MatchResult result
             (λ _. (one ≡ width_of self.now) × (other ≡ width_of self.now)
             × (third ≡ width_of self.now))
-            (λ _. ¬ ((one ≡ width_of self.now) × (other ≡ width_of self.now)
-            × (third ≡ width_of self.now))) }
+            (λ error. (¬ ((one ≡ width_of self.now) × (other ≡ width_of self.now)
+            × (third ≡ width_of self.now)))
+            × TellsFirstOther (width_of self.now) (one ∷ other ∷ third ∷ []) error) }
     {
         self.check(one)?;
         self.check(other)?;

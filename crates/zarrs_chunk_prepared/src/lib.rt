@@ -18,6 +18,7 @@
 //! | `grid` | a prepared grid, and what it answers |
 //! | `axis` | one dimension |
 //! | `encoding` | an encoding as numbers |
+//! | `laws` | how many numbers are written |
 //! | `search` | the search in runs |
 //! | `homes`, `boxes`, `covers` | in which chunk an element lies, where a chunk lies, and which chunks a box reaches, dimension by dimension |
 #![tactic(auto)]
@@ -28,6 +29,7 @@ mod covers;
 mod encoding;
 mod grid;
 mod homes;
+pub mod laws;
 mod read;
 mod run_table;
 mod search;

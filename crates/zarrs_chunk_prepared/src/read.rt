@@ -23,9 +23,11 @@ pub(crate) fn read_axes(
     numbers: &[u64],
     look_ups: usize,
 ) -> Result<Option<Vec<PreparedAxis<'_>>>, AllocError>
-    ensures { IfOk result (λ found. (tables : List Table) → AllByRecursion HasAsMany tables
+    ensures tables { IfOk result (λ found. (tables : List Table) → AllByRecursion HasAsMany tables
         → numbers.now ≡ flat_map row tables
         → MatchOption found ⊥ (λ axes. map table_of axes.items ≡ tables)) }
+    ensures numbers { IfOk result (λ found. IfSome found (λ axes.
+        numbers.now ≡ flat_map row (map table_of axes.items))) }
 {
     let mut axes = Vec::new(alloc);
     let mut rest = numbers;
@@ -44,6 +46,8 @@ pub(crate) fn read_axes(
 fn next_axis(numbers: &[u64], look_ups: usize) -> Option<(PreparedAxis<'_>, &[u64])>
     ensures next { (t : Table) (behind : List ℕ) → HasAsMany t → numbers.now ≡ row t ++ behind
         → MatchOption result ⊥ (λ next. (table_of next.0 ≡ t) × (next.1.now ≡ behind)) }
+    ensures numbers { IfSome result (λ next.
+        numbers.now ≡ row (table_of next.0) ++ next.1.now) }
     ensures shorter { IfSome result (λ next. length next.1.now < length numbers.now) }
 {
     let (head, rest) = numbers.split_at_checked(4)?;

@@ -5,7 +5,7 @@ ghost use Rattle.zarrs_chunk_axes.specs.Listed.{IsListed};
 ghost use Rattle.zarrs_chunk_base.specs.Dimension.{Dimension, IsChain};
 ghost use Rattle.zarrs_chunk_base.specs.DimensionEdges.{equal, listed};
 ghost use Rattle.zarrs_chunk_base.specs.RunLength.{expansion, rectilinear_edges};
-ghost use Rattle.zarrs_chunk_prepared.specs.Prepared.{IsPreparedGrid, IsTableOf, Table, row};
+ghost use Rattle.zarrs_chunk_prepared.specs.Prepared.{IsWrittenGrid, IsShortest, IsTableOf, Table, row};
 ghost use Rattle.zarrs_chunk_prepared.specs.seen.RunTable.{HaveSum, IsCut};
 ghost use Rattle.zarrs_chunks.specs.GridKinds.{is_bounded as ends_with_array};
 ghost use Rattle.zarrs_chunks.specs.seen.Grids.{grid_in, kind_in};
@@ -19,12 +19,12 @@ use zarrs_chunk_runs::RunEdges;
 use zarrs_chunks::{ChunkGrid, ChunkGridTraits};
 
 /// The numbers of a grid, by which [`PreparedGrid`](crate::PreparedGrid) answers as the grid does. There are two, and for each dimension four, and
-/// three for each run of equal edges; one edge for all chunks is one run.
+/// three for each run of equal edges. One edge for all chunks is one run, or none where there is no chunk.
 ///
 /// # Errors
 /// Out of memory.
 pub fn prepare_grid(alloc: Global, grid: &ChunkGrid) -> Result<Vec<u64>, AllocError>
-    ensures { IfOk result (λ numbers. IsPreparedGrid numbers.items (grid_in grid.now)) }
+    ensures { IfOk result (λ numbers. IsWrittenGrid numbers.items (grid_in grid.now)) }
 {
     let lengths = grid.edge_lengths(alloc)?;
     let bounded = is_bounded(grid);
@@ -64,7 +64,8 @@ fn append_dimension(
     requires { HaveSum (rectilinear_edges lengths.now) }
     ensures { OnOk result ((d : Dimension) → IsChain d → count ≡ d.grid_size
         → IsCut bounded d size (rectilinear_edges lengths.now)
-        → (t : Table) × IsTableOf d t × (numbers.new.items ≡ numbers.old.items ++ row t)) }
+        → (t : Table) × IsTableOf d t × IsShortest d (rectilinear_edges lengths.now) t
+        × (numbers.new.items ≡ numbers.old.items ++ row t)) }
 {
     match lengths {
         ChunkEdgeLengths::Scalar(edge) => append_edge(numbers, size, count, bounded, *edge),
@@ -85,7 +86,8 @@ fn append_edge(
 ) -> Result<(), AllocError>
     ensures { OnOk result ((d : Dimension) → IsChain d → count ≡ d.grid_size
         → IsCut bounded d size (equal (non_zero_u64_get edge))
-        → (t : Table) × IsTableOf d t × (numbers.new.items ≡ numbers.old.items ++ row t)) }
+        → (t : Table) × IsTableOf d t × IsShortest d (equal (non_zero_u64_get edge)) t
+        × (numbers.new.items ≡ numbers.old.items ++ row t)) }
 {
     if !bounded {
         return append_row(
@@ -122,7 +124,8 @@ fn append_runs(
     requires { HaveSum (listed (expansion elements.now)) }
     ensures { OnOk result ((d : Dimension) (size : ℕ) → IsChain d → count ≡ d.grid_size
         → IsListed d size (expansion elements.now)
-        → (t : Table) × IsTableOf d t × (numbers.new.items ≡ numbers.old.items ++ row t)) }
+        → (t : Table) × IsTableOf d t × IsShortest d (listed (expansion elements.now)) t
+        × (numbers.new.items ≡ numbers.old.items ++ row t)) }
 {
     let edges = match RunEdges::new(alloc, elements) {
         Ok(edges) => edges,

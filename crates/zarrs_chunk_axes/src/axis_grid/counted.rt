@@ -3,10 +3,11 @@ ghost use Rattle.std.specs.Prelude.{◌≡◌, ◌+◌, ◌≤◌, ℕ, IfErr, I
 ghost use Rattle.std.specs.List.{AllZip, sum};
 ghost use Rattle.zarrs_chunk_base.specs.Dimension.{InBox, Holds};
 ghost use Rattle.zarrs_chunk_base.specs.Greatest.{greatest};
-ghost use Rattle.zarrs_chunk_axes.specs.Counted.{AreCounted, HasOneForEach, IsSearchBound, TellsRuns};
+ghost use Rattle.zarrs_chunk_axes.specs.Counted.{AreCounted, AreSearchedInOrder, HasOneForEach, TellsRuns};
 ghost use Rattle.zarrs_chunk_axes.specs.LookUp.{AnswersChunk};
 ghost use Rattle.zarrs_chunk_axes.specs.seen.EqualOr.{equal_or, equal_or_edges};
 ghost use Rattle.zarrs_chunk_axes.specs.seen.RunsAxis.{runs_dimension, runs_edges};
+ghost use Rattle.zarrs_chunk_axes.specs.seen.Searched.{AreSearched, IsSearched};
 ghost use Rattle.zarrs_chunk_runs.specs.seen.Comparisons.{count_of};
 
 use super::AxisGrid;
@@ -45,6 +46,9 @@ impl AxisGrid<EqualOr<RunsAxis>> {
             (count_of comparisons.old) (count_of comparisons.new) }
         ensures each { IfOk result (λ found. IfSome found (λ _. HasOneForEach (edges_of self.now)
             (count_of comparisons.old) (count_of comparisons.new))) }
+        ensures in_order { IfOk result (λ _. AreSearchedInOrder
+            (dimensions_of self.now) (edges_of self.now) indices.now
+            (count_of comparisons.old) (count_of comparisons.new)) }
         ensures unchanged { IfErr result (λ _. count_of comparisons.new
             ≡ count_of comparisons.old) }
     {
@@ -66,11 +70,9 @@ fn find_chunks(
     ensures found { IfOk result (λ found. MatchOption found
         ((chunk : List ℕ) → ¬ InBox (map (equal_or runs_dimension) axes.now) chunk indices.now)
         (λ chunk. InBox (map (equal_or runs_dimension) axes.now) chunk.items indices.now)) }
-    ensures counted { AreCounted (map (equal_or_edges runs_edges) axes.now)
-        (count_of comparisons.old) (count_of comparisons.new) }
-    ensures each { IfOk result (λ found. IfSome found (λ _.
-        HasOneForEach (map (equal_or_edges runs_edges) axes.now)
-        (count_of comparisons.old) (count_of comparisons.new))) }
+    ensures searched { IfOk result (λ _. AreSearched (map (equal_or runs_dimension) axes.now)
+        (map (equal_or_edges runs_edges) axes.now) indices.now
+        (count_of comparisons.old) (count_of comparisons.new)) }
     ensures unchanged { IfErr result (λ _. count_of comparisons.new
         ≡ count_of comparisons.old) }
     ensures stores_nothing { length axes.now ≡ 0 → IsOk result }
@@ -90,13 +92,8 @@ fn find_chunk(axis: &EqualOr<RunsAxis>, index: u64, comparisons: &mut Comparison
     ensures found { MatchOption result
         ((c : ℕ) → ¬ Holds (equal_or runs_dimension axis.now) c index)
         (λ c. Holds (equal_or runs_dimension axis.now) c index) }
-    ensures grows { count_of comparisons.old ≤ count_of comparisons.new }
-    ensures at_most { (most : ℕ) → IsSearchBound (equal_or_edges runs_edges axis.now) most
-        → count_of comparisons.new ≤ count_of comparisons.old + most }
-    ensures each { HasOneForEach (equal_or_edges runs_edges axis.now ∷ [])
+    ensures searched { IsSearched (equal_or_edges runs_edges axis.now)
         (count_of comparisons.old) (count_of comparisons.new) }
-    ensures stays { count_of comparisons.old ≡ greatest
-        → count_of comparisons.new ≡ greatest }
 {
     match axis {
         EqualOr::Equal(axis) => axis.chunk_of(index),

@@ -59,7 +59,7 @@ impl RectilinearChunkGrid {
     ghost use Rattle.std.specs.List.{AllZip};
     ghost use Rattle.zarrs_chunk_base.specs.Refusal.{OrMemory};
     ghost use Rattle.zarrs_chunk_base.specs.RunLength.{rectilinear_edges, IsSameChunkEdgeLengths};
-    ghost use Rattle.zarrs_chunk_axes.specs.Counted.{AreCounted, HasOneForEach, TellsRuns};
+    ghost use Rattle.zarrs_chunk_axes.specs.Counted.{AreCounted, AreSearchedInOrder, HasOneForEach, TellsRuns};
     ghost use Rattle.zarrs_chunk_axes.specs.EqualOrListed.{AreEqualOrListed};
     ghost use Rattle.zarrs_chunk_axes.specs.LookUp.{AnswersChunk};
     ghost use Rattle.zarrs_chunk_axes.specs.Rectilinear.{AreRectilinear};
@@ -111,8 +111,8 @@ impl RectilinearChunkGrid {
     }
 
     /// For each dimension the chunk that holds the index, as `chunk_indices` answers. Each comparison of an index with a running sum of
-    /// edges is counted: in a dimension of listed edges at most as many as its number of runs has binary digits, and at least one where
-    /// the answer is a chunk; none where one edge is that of all chunks.
+    /// edges is counted: in a dimension of listed edges at most as many as its number of runs has binary digits, and at least one; none
+    /// where one edge is that of all chunks. The first dimension that doesn't hold the index is the last one that is searched.
     ///
     /// # Errors
     /// The list has another length than there are dimensions; or out of memory. Nothing is counted then.
@@ -129,6 +129,9 @@ impl RectilinearChunkGrid {
         ensures each { IfOk result (λ found. IfSome found (λ _.
             HasOneForEach (rectilinear_of self.now).edges
             (count_of comparisons.old) (count_of comparisons.new))) }
+        ensures in_order { IfOk result (λ _. AreSearchedInOrder
+            (rectilinear_of self.now).dimensions (rectilinear_of self.now).edges array_indices.now
+            (count_of comparisons.old) (count_of comparisons.new)) }
         ensures unchanged { IfErr result (λ _. count_of comparisons.new
             ≡ count_of comparisons.old) }
     {

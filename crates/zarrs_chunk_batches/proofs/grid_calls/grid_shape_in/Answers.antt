@@ -15,4 +15,4 @@ returns-in_err-write_grid_shape c grid prepared =
     let width = width_is grid c.in_ok-read_grid.field-0 (c.in_ok-read_grid.ensures grid prepared) in
     let same = c.write_grid_shape.auto.sizes in
     rw (p.1, p.2)
-    (inr (inl (refl, λ fits. c.in_err-write_grid_shape.ensures.lengths (let own = fits.0 in omega (arith, width, same)))))
+    (inr (inl (refl, λ fits. c.in_err-write_grid_shape.ensures.lengths.0 (let own = fits.0 in omega (arith, width, same)))))

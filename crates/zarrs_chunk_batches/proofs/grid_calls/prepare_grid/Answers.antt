@@ -1,6 +1,6 @@
 use Rattle.std.proofs.Common.{List, ℕ, inl, inr, ⊎_elim}
 use Rattle.std.proofs.lemmas.Result.{err_from_is_err_and}
-use Rattle.zarrs_chunk_prepared.specs.Prepared.{IsPreparedGrid}
+use Rattle.zarrs_chunk_prepared.specs.Prepared.{IsWrittenGrid}
 use Rattle.zarrs_chunks.specs.seen.Grids.{grid_in}
 use Rattle.zarrs_chunk_batches.specs.Calls.{early, no_metadata}
 use Rattle.zarrs_chunk_batches.specs.PreparedCalls.{prepare_grid_call}
@@ -15,9 +15,9 @@ returns-in_err-grid-clause-ends c =
 pub returns-clause-ends : goal.returns-clause-ends
 returns-clause-ends c =
     let grid = grid_in c.in_ok-grid.grid in
-    let IsOfGrid = λ (numbers : List ℕ). IsPreparedGrid numbers grid in
+    let IsOfGrid = λ (numbers : List ℕ). IsWrittenGrid numbers grid in
     let numbers = c.deref.result.now in
-    let are : IsPreparedGrid numbers grid = rw c.deref.ensures.value c.in_ok-prepared.ensures in
+    let are : IsWrittenGrid numbers grid = rw c.deref.ensures.value c.in_ok-prepared.ensures in
     let wrote = c.write_front.new in
     let told = c.write_front.ensures in
     ends_with (prepare_grid_call c.args.shape.now c.args.chunk_grid.now wrote.buffer wrote.needed) grid c.write_front.result c.in_ok-grid.ensures.made tt

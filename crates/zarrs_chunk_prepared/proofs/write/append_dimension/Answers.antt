@@ -16,7 +16,7 @@ pub returns-in-Varying : goal.returns-in-Varying
 returns-in-Varying c =
     on_ok_weaker c.append_runs.result
     (λ appends d chain counts cut.
-    appends d c.args.size chain counts
+    rw (c.in-Varying.is, ← c.deref.ensures.value) (appends d c.args.size chain counts
     (is_listed c.args.bounded d c.args.size (expansion c.deref.result.now)
-    (rw c.deref.ensures.value (rw c.in-Varying.is at cut))))
+    (rw c.deref.ensures.value (rw c.in-Varying.is at cut)))))
     c.append_runs.ensures

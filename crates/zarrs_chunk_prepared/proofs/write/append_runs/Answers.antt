@@ -8,7 +8,7 @@ returns c =
     let (some, fits) = rw (← edges) at c.requires in
     on_ok_weaker c.append_row.result
     (λ wrote d size chain counts is.
-    appended_runs c.in-Ok.edges c.in_ok-table.table.starts.items c.in_ok-table.table.chunks.items c.in_ok-table.table.edges.items
+    rw (← edges) (appended_runs c.in-Ok.edges c.in_ok-table.table.starts.items c.in_ok-table.table.chunks.items c.in_ok-table.table.edges.items
     c.args.numbers.now.items c.append_row.new.numbers.items d size c.args.count chain counts (rw edges is) some fits
     c.in_ok-table.ensures
     (rw (
@@ -20,5 +20,5 @@ returns c =
       c.deref.ensures.value,
       c.deref-2.ensures.value,
       c.deref-3.ensures.value,
-    ) at wrote))
+    ) at wrote)))
     c.append_row.ensures

@@ -1,9 +1,16 @@
-use Rattle.std.proofs.Common.{subst}
-use Rattle.zarrs_chunk_axes.specs.Counted.{IsSearchBound}
-use Rattle.zarrs_chunk_axes.specs.seen.EqualOr.{equal_or_edges}
-use Rattle.zarrs_chunk_axes.specs.seen.RunsAxis.{runs_edges}
 use Rattle.zarrs_chunk_axes.proofs.axis_grid.counted.find_chunk.Goals as goal
+use Rattle.std.proofs.Common.{arith}
 
-pub returns-in-Other-clause-at_most : goal.returns-in-Other-clause-at_most
-returns-in-Other-clause-at_most c most h =
-    c.chunk_of_counted.ensures.at_most most (subst (λ axis. IsSearchBound (equal_or_edges runs_edges axis) most) c.in-Other.is h)
+pub returns-in-Equal-clause-searched : goal.returns-in-Equal-clause-searched
+returns-in-Equal-clause-searched c =
+    rw c.in-Equal.is (record { grows = omega arith; at_most = λ most h. omega arith; at_least = omega arith; stays = λ h. h })
+
+pub returns-in-Other-clause-searched : goal.returns-in-Other-clause-searched
+returns-in-Other-clause-searched c =
+    let ensures = c.chunk_of_counted.ensures in
+    rw c.in-Other.is (record {
+      grows = ensures.grows;
+      at_most = ensures.at_most;
+      at_least = ensures.at_least;
+      stays = ensures.stays;
+    })
