@@ -35,8 +35,8 @@ abbrev pub IsByteIn : (item : ℕ) → MemoryOrder → (edges start shape : List
 IsByteIn item order edges start shape byte =
     (index : List ℕ) × AreWithin start shape index × IsByteOf item (in_order order edges) (in_order order index) byte
 
--- The byte `from` of a chunk's object is the byte `to` of the elements of a box, where these stand one after another, in the order of the chunk: it is
--- the same byte of the same element.
+-- The byte `from` of a chunk's object is the byte `to` of the elements of a box, one after another in the order of the chunk. Both are the same byte of
+-- one element.
 pub record GoesTo (item : ℕ) (order : MemoryOrder) (edges start shape : List ℕ) (from to : ℕ) : Type 0 where
   pub index : List ℕ
   pub within : AreWithin start shape index

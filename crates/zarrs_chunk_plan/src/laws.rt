@@ -423,8 +423,8 @@ pub fn each_chunk_of_a_region_has_one_group<
         × MovesTo (G.dimensions source.now.grid) (H.dimensions target.now.grid) copy steps from index) }
 {}
 
-/// There is what the laws above are about, since every encoding has a key of each chunk: a plan of each box of elements that has a cover, a rechunking
-/// into the chunks of each box, and the copy of each region that lies in both arrays.
+/// Each box of elements that has a cover has a plan. There is a rechunking into the chunks of each box, and a copy of each region that lies in both
+/// arrays. So no law above is about nothing: every encoding has a key of each chunk.
 pub fn there_is_a_plan<
     G: ChunkGridTraits,
     E: ChunkKeyEncodingTraits,

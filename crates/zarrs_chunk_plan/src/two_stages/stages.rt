@@ -151,7 +151,7 @@ fn are_few_between<G: ChunkGridTraits, H: ChunkGridTraits>(
     Ok(are_few(&copied, &chunks))
 }
 
-/// The edges that are chosen, which are those of the innermost dimension first, in the order of the dimensions.
+/// Returns the chosen edges in the order of the dimensions. A choice has them the innermost dimension first.
 fn outermost_first(chosen: Option<Chosen>) -> Option<ChunkShape>
     ensures { option_map (λ shape. shape.items) result
         ≡ option_map (λ chosen. reverse chosen.edges.items) chosen }
