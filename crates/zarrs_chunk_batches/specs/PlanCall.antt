@@ -5,7 +5,7 @@ use Rattle.zarrs_chunk_base.specs.ArraySubset.{Box, IsBox}
 use Rattle.zarrs_chunk_base.specs.Greatest.{greatest}
 use Rattle.zarrs_chunk_base.specs.Grid.{Grid}
 use Rattle.zarrs_chunk_keys.specs.ChunkKey.{Encoding, IsKey}
-use Rattle.zarrs_chunk_questions.specs.AnswerLine.{IsAnswerTo}
+use Rattle.zarrs_chunk_questions.specs.AnswerLine.{AsksForItems, IsAnswerTo}
 use Rattle.zarrs_chunk_batches.specs.Batch.{AreLengths, IsTooLong, IsWhole}
 use Rattle.zarrs_chunk_batches.specs.Calls.{Call}
 use Rattle.zarrs_chunk_batches.specs.Parts.{IsPlanOf, IsPlanTooLong, IsRoomFor}
@@ -49,12 +49,12 @@ abbrev pub IsUncounted : PartBuffers → Type 0
 IsUncounted buffers = buffers.found ≡ 0 → (buffers.needed ≡ 0) × (buffers.count ≡ 0) × (buffers.in_all ≡ 0)
 
 -- Any question, which is always answered, by one line. It is refused where that is longer than its buffer; how long it is, is told, or the greatest
--- number where that isn't known.
+-- number where that isn't known, which it may be where items are asked for.
 abbrev pub answer_call : (question line : List ℕ) (needed : ℕ) → Call (Unit {0})
 answer_call question line needed = record {
   Misses = λ _. ⊥;
   Says = λ _. Unit {0};
   Fits = λ _. Unit {0};
-  Refuses = λ _ fault. (fault ≡ Short) × (IsTooLong (IsAnswerTo question) line needed ⊎ (needed ≡ greatest));
+  Refuses = λ _ fault. (fault ≡ Short) × (IsTooLong (IsAnswerTo question) line needed ⊎ ((needed ≡ greatest) × AsksForItems question));
   Answers = λ _. IsWhole (IsAnswerTo question) line needed;
 }

@@ -7,7 +7,7 @@ use Rattle.zarrs_chunk_batches.proofs.Ends.{ends_with, in_front}
 use Rattle.zarrs_chunk_batches.proofs.answer_call.answer_line.Goals as goal
 
 pub returns-in_default-clause-ends : goal.returns-in_default-clause-ends
-returns-in_default-clause-ends c = inr (late tt tt tt (refl, inr refl))
+returns-in_default-clause-ends c = inr (late tt tt tt (refl, inr (refl, c.in_ok-answer.ensures.long c.in_default.is)))
 
 pub returns-clause-ends : goal.returns-clause-ends
 returns-clause-ends c =
