@@ -14,7 +14,7 @@ use Rattle.zarrs_chunk_base.specs.Kinds.{IsConfigurationOf, IsMetadata}
 use Rattle.zarrs_chunk_base.specs.Metadata.{Extension, extension_tree}
 use Rattle.zarrs_chunk_base.specs.Refusal.{AnswersOrMemory}
 use Rattle.zarrs_chunk_base.specs.StoreKey.{EndsInSlash}
-use Rattle.zarrs_chunk_axes.specs.Counted.{AreCounted, HasOneForEach, TellsRuns}
+use Rattle.zarrs_chunk_axes.specs.Counted.{AreCounted, AreSearchedInOrder, HasOneForEach, TellsRuns}
 use Rattle.zarrs_chunk_axes.specs.InBounds.{AreInBounds, AreIndicesInBounds}
 use Rattle.zarrs_chunk_axes.specs.LookUp.{AnswersChunk, AnswersOrigin, AnswersPlace, AnswersShape, AnswersShapeNumbers}
 use Rattle.zarrs_chunk_keys.specs.ChunkKey.{Encoding, IsKey}
@@ -100,6 +100,7 @@ pub record IsCountedAnswer (grid : Grid) (index : List ℕ) (t : Data) : Type 0 
   pub answers : AnswersChunk grid.dimensions index (Ok answer)
   pub counted : AreCounted grid.edges 0 comparisons
   pub each : IsSome answer → HasOneForEach grid.edges 0 comparisons
+  pub searched : AreSearchedInOrder grid.dimensions grid.edges index 0 comparisons
   pub tree : t ≡ counted_tree (or_null items_tree answer) comparisons
 
 -- ---- of an element
