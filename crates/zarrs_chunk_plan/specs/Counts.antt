@@ -21,7 +21,8 @@ abbrev pub product : List ℕ → ℕ
 product [] = 1
 product (n ∷ numbers) = n * product numbers
 
--- the chunks in a box are few enough to go through, a dimension after another: there are none, or along all together at most 2 ^ 20
+-- The chunks in a box are few enough to go through, one dimension after another: there are none, or the numbers along each dimension add up to at most
+-- 2 ^ 20.
 abbrev pub AreFew : Box → Type 0
 AreFew chunks = IsEmptyBox chunks ⊎ (sum chunks.shape ≤ 2 ^ 20)
 

@@ -23,7 +23,7 @@ module _ (source : List Dimension) (IsSourceKey : List ℕ → List ℕ → Type
   abbrev pub AreCopiesInto : List ℕ → Group → Type 0
   AreCopiesInto = AreMovedInto source IsSourceKey target IsTargetKey (array_box target) (array_box target).start
 
-  -- the rechunking into the chunks of a box
+  -- The rechunking into the chunks of a box. It asks that the target's array lies in the source's; the calls and the laws ask that both have one shape.
   abbrev pub IsRechunking : (chunks : Box) → List Group → Type 0
   IsRechunking chunks = IsCopy source IsSourceKey target IsTargetKey (array_box target) (array_box target).start (IsInside chunks)
 

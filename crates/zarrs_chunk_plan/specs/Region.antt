@@ -17,7 +17,7 @@ use Rattle.zarrs_chunk_plan.specs.declared.copy.region_error.RegionError.TheVari
 abbrev pub Group : Type 0
 Group = Part × List Part
 
--- the copies, one after another: of each group each part of the source, and with it the target's chunk
+-- the copies, one after another: of each group each part of the source comes first in a pair, and the target's chunk second
 abbrev pub copies_of : List Group → List (Part × Part)
 copies_of = flat_map (λ group. map (λ from. (from, group.0)) group.1)
 

@@ -11,7 +11,7 @@ before_share number of all = number * all / of
 abbrev pub between : {X : Type 0} → (first end : ℕ) → List X → List X
 between first end xs = take (end - first) (drop first xs)
 
--- the share with this number: from where it begins up to where the next one does
+-- the share with this number, which is below `of`: from where it begins up to where the next one does
 abbrev pub numbered_share : {X : Type 0} → (number of : ℕ) → List X → List X
 numbered_share number of xs = between (before_share number of (length xs)) (before_share (number + 1) of (length xs)) xs
 

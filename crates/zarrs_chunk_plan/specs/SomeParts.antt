@@ -21,7 +21,7 @@ pub record AreSomeParts (ds : List Dimension) (IsKey : List ℕ → List ℕ →
   pub in_all : some.in_all ≡ min (length (chunks_in cover)) greatest
   pub are_parts : AllZip (IsPart ds IsKey subset) (take (min (some.in_all - first) most) (drop first (chunks_in cover))) some.parts.items
 
--- what is answered where the box isn't empty: parts of the chunks of its cover, and none where it has none
+-- what is answered of a box that isn't empty: parts of the chunks of its cover, and none where it has no cover
 abbrev pub AnswersSome : List Dimension → (List ℕ → List ℕ → Type 0) → Box → (first most : ℕ)
     → Result (Option SomeParts) (Refusal IncompatibleDimensionalityError) → Type 0
 AnswersSome ds IsKey b first most =

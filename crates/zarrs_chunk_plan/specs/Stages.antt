@@ -93,7 +93,7 @@ pub record IsChosen (source target : List Dimension) (most : ℕ) (largest other
       → AreStages source target shape reads → AreStages source target another its_reads → min greatest its_reads ≡ min greatest reads
       → ¬ IsBefore another shape
 
--- What is found: of at most 2 ^ 20 shapes that are tried the one that is chosen, and none where none fits.
+-- What is found: of at most 2 ^ 20 shapes that are tried the one that is chosen, and none where none of them fits.
 pub record FindsShape (source target : List Dimension) (most : ℕ) (found : Option (List ℕ)) : Type 0 where
   pub largest : List ℕ
   pub is_largest : IsLargest source largest
