@@ -1,4 +1,3 @@
-pub mod FormFaults
 pub mod IndexLists
 pub mod Lines
 pub mod Outcomes

@@ -1,74 +1,66 @@
 -- What the documents of the programs have in common: an object of JSON with an array's `shape`, and members that are extensions' metadata.
 -- Source: RFC 8259; Zarr V3 core, array metadata and extension definition.
-use Rattle.std.specs.Prelude.{◌≡◌, ℕ, List, Contains, IsSome, Option, Some, None, codes, option_and_then}
+use Rattle.std.specs.Prelude.{◌≡◌, ℕ, List, IsSome, Option, Some, None, Result, Ok, Err, codes}
 use Rattle.serde_json.specs.Data.{Data}
 use Rattle.serde_json.specs.Find.{as_object, get}
 use Rattle.zarrs_chunk_base.specs.Json.{IsJsonOf, size_of, list_of}
 use Rattle.zarrs_chunk_base.specs.Metadata.{Extension, IsExtension, IsMetadataFault}
+use Rattle.documents.specs.Reading.{gives, optional, then}
 use Rattle.documents.specs.Stored.{Stored}
 use Rattle.documents.specs.declared.document_fault.DocumentFault.{DocumentFault}
 use Rattle.documents.specs.declared.document_fault.DocumentFault.TheVariants.{NotJson, NotObject, Missing, WrongValue, Metadata}
 
--- the object that bytes are the text of
-pub record IsObjectOf (input : List ℕ) (d : Data) : Type 0 where
-  pub is_tree : IsJsonOf input d
-  pub is_object : IsSome (as_object d)
+-- the object that bytes are the text of; or they are no JSON, or no object
+abbrev pub object_in : (input : List ℕ) → Result Data DocumentFault → Type 0
+object_in input (Ok d) = IsJsonOf input d × IsSome (as_object d)
+object_in input (Err NotJson) = (tree : Data) → ¬ IsJsonOf input tree
+object_in input (Err NotObject) = (tree : Data) × IsJsonOf input tree × (as_object tree ≡ None)
+object_in input (Err _) = ⊥
 
--- each of these members is there
-abbrev pub HasAll : List (List ℕ) → Data → Type 0
-HasAll members d = (name : List ℕ) → Contains members name → IsSome (get name d)
+-- a member that has to be there; a fault calls it by the name
+abbrev pub required : (field name : List ℕ) → Data → Result Data DocumentFault → Type 0
+required field name d (Ok m) = get field d ≡ Some m
+required field name d (Err (Missing by)) = (by.now ≡ name) × (get field d ≡ None)
+required field name d (Err _) = ⊥
+
+-- the members that say what an array is are there, or the first that isn't
+abbrev pub members_in : Data → Result (Unit {0}) DocumentFault → Type 0
+members_in d =
+    then (required (codes "shape") (codes "shape") d) (λ _.
+    then (required (codes "chunk_grid") (codes "chunk_grid") d) (λ _.
+    then (required (codes "chunk_key_encoding") (codes "chunk_key_encoding") d) (λ _.
+    gives tt)))
+
+-- a value that has to be of a form, as the member of this name
+abbrev pub in_form : {X : Type 0} → (form : Data → Option X) → (name : List ℕ) → Data → Result X DocumentFault → Type 0
+in_form form name value (Ok x) = form value ≡ Some x
+in_form form name value (Err (WrongValue by)) = (by.now ≡ name) × (form value ≡ None)
+in_form form name value (Err _) = ⊥
+
+-- a member that is of a form, where there is one
+abbrev pub optional_in : {X : Type 0} → (form : Data → Option X) → (field : List ℕ) → Data → Result (Option X) DocumentFault → Type 0
+optional_in form field d = optional (gives None) (λ m. then (in_form form field m) (λ x. gives (Some x))) (get field d)
+
+-- and what stands for it, where there is none
+abbrev pub in_form_or : {X : Type 0} → (absent : X) → (form : Data → Option X) → (field : List ℕ) → Data → Result X DocumentFault → Type 0
+in_form_or absent form field d = optional (gives absent) (in_form form field) (get field d)
 
 -- `shape`: a list of sizes
-abbrev pub shape_in : Data → Option (List ℕ)
-shape_in d = option_and_then (list_of size_of) (get (codes "shape") d)
+abbrev pub shape_in : (name : List ℕ) → Data → Result (List ℕ) DocumentFault → Type 0
+shape_in name d = then (required (codes "shape") name d) (in_form (list_of size_of) name)
 
--- the member is an extension's metadata
-abbrev pub HasExtension : Data → List ℕ → Extension → Type 0
-HasExtension d field e = (m : Data) × (get field d ≡ Some m) × IsExtension m e
+-- an extension's metadata, or why a value is none
+abbrev pub extension_in : (name : List ℕ) → Data → Result Extension DocumentFault → Type 0
+extension_in name value (Ok e) = IsExtension value e
+extension_in name value (Err (Metadata by error)) = (by.now ≡ name) × IsMetadataFault value error
+extension_in name value (Err _) = ⊥
 
-abbrev pub HasSomeExtension : Data → List ℕ → Type 0
-HasSomeExtension d field = (e : Extension) × HasExtension d field e
-
--- the members `chunk_grid` and `chunk_key_encoding`
-pub record HasStored (d : Data) (stored : Stored) : Type 0 where
-  pub grid : HasExtension d (codes "chunk_grid") stored.chunk_grid
-  pub encoding : HasExtension d (codes "chunk_key_encoding") stored.chunk_key_encoding
-
--- ---- faults
-
--- the fault says that the input is no JSON, or no object
-abbrev pub IsTextFault : List ℕ → DocumentFault → Type 0
-IsTextFault input NotJson = (tree : Data) → ¬ IsJsonOf input tree
-IsTextFault input NotObject = (tree : Data) × IsJsonOf input tree × (as_object tree ≡ None)
-IsTextFault _ _ = ⊥
-
--- the fault says that the member is missing, and calls it by the name
-abbrev pub IsMissingFault : Data → (field name : List ℕ) → DocumentFault → Type 0
-IsMissingFault d field name (Missing told) = (told.now ≡ name) × (get field d ≡ None)
-IsMissingFault _ _ _ _ = ⊥
-
--- the fault says that `shape` is missing, or isn't of its form, and calls it by the name
-abbrev pub IsShapeFault : Data → (name : List ℕ) → DocumentFault → Type 0
-IsShapeFault d name (Missing told) = (told.now ≡ name) × (get (codes "shape") d ≡ None)
-IsShapeFault d name (WrongValue told) = (told.now ≡ name) × IsSome (get (codes "shape") d) × (shape_in d ≡ None)
-IsShapeFault _ _ _ = ⊥
-
--- the fault says why the value of the member of this name is no extension's metadata
-abbrev pub IsExtensionFault : Data → List ℕ → DocumentFault → Type 0
-IsExtensionFault value name (Metadata told error) = (told.now ≡ name) × IsMetadataFault value error
-IsExtensionFault _ _ _ = ⊥
-
--- the member is there and is no extension's metadata; the fault, which calls it by the name, says why
-abbrev pub HasExtensionFault : Data → (field name : List ℕ) → DocumentFault → Type 0
-HasExtensionFault d field name fault = (m : Data) × (get field d ≡ Some m) × IsExtensionFault m name fault
-
--- The first fault of how a tree says that an array is stored: of its chunk grid and its chunk key encoding, which the fault calls by these
--- names, one is missing; one is no extension's metadata.
-pub data IsStoredFault (d : Data) (grid_name encoding_name : List ℕ) (fault : DocumentFault) : Type 0 where
-  no_grid : IsMissingFault d (codes "chunk_grid") grid_name fault → IsStoredFault d grid_name encoding_name fault
-  no_encoding : IsSome (get (codes "chunk_grid") d) → IsMissingFault d (codes "chunk_key_encoding") encoding_name fault
-      → IsStoredFault d grid_name encoding_name fault
-  misformed_grid : IsSome (get (codes "chunk_key_encoding") d) → HasExtensionFault d (codes "chunk_grid") grid_name fault
-      → IsStoredFault d grid_name encoding_name fault
-  misformed_encoding : HasSomeExtension d (codes "chunk_grid")
-      → HasExtensionFault d (codes "chunk_key_encoding") encoding_name fault → IsStoredFault d grid_name encoding_name fault
+-- How an array is stored: `chunk_grid` and `chunk_key_encoding`, which a fault calls by these names. Both have to be there, and then to be of
+-- their form.
+abbrev pub stored_in : (grid_name encoding_name : List ℕ) → Data → Result Stored DocumentFault → Type 0
+stored_in grid_name encoding_name d =
+    then (required (codes "chunk_grid") grid_name d) (λ grid.
+    then (required (codes "chunk_key_encoding") encoding_name d) (λ encoding.
+    then (extension_in grid_name grid) (λ chunk_grid.
+    then (extension_in encoding_name encoding) (λ chunk_key_encoding.
+    gives (record { chunk_grid = chunk_grid; chunk_key_encoding = chunk_key_encoding })))))

@@ -1,3 +1,4 @@
 pub mod Document
+pub mod Reading
 pub mod Stored
 pub mod chunkwhere

@@ -1,6 +1,6 @@
 -- How an array is stored: in which chunks, and under which keys.
 -- Source: Zarr V3 core, array metadata.
-use Rattle.std.specs.Prelude.{ℕ, List}
+use Rattle.std.specs.Prelude.{ℕ, List, Result, Ok, Err}
 use Rattle.zarrs_chunk_base.specs.Grid.{Grid}
 use Rattle.zarrs_chunk_base.specs.Metadata.{Extension, extension_of}
 use Rattle.zarrs_chunk_keys.specs.ChunkKey.{Encoding}
@@ -30,3 +30,8 @@ IsCreateFault stored shape (NoGrid error) = IsGridFault stored.chunk_grid shape 
 IsCreateFault stored shape (NoEncoding error) =
     ((grid : Grid) × IsGrid stored.chunk_grid shape grid) × IsEncodingFault stored.chunk_key_encoding error
 IsCreateFault _ _ _ = ⊥
+
+-- the grid and the encoding, or why there are none
+abbrev pub array_of : Stored → List ℕ → Result (Grid × Encoding) CreateFault → Type 0
+array_of stored shape (Ok array) = IsStored stored shape array.0 array.1
+array_of stored shape (Err fault) = IsCreateFault stored shape fault

@@ -4,10 +4,11 @@
 //! |---|---|
 //! | `document`, `answer` | the two steps between reading and writing: understand, answer |
 //! | `run_fault` | why a run stops |
-ghost use Rattle.std.specs.Prelude.{◌≡◌, ◌≤◌, ◌⊎◌, false, IfSome, MatchResult, OnOk, string_bytes};
+ghost use Rattle.std.specs.Prelude.{◌≡◌, ◌≤◌, false, IfSome, MatchResult, OnOk, string_bytes};
 ghost use Rattle.std.specs.Io.KnownBytes.{Keeps};
 ghost use Rattle.streams.specs.Watched.{watched, has_failed};
-ghost use Rattle.documents.specs.chunkwhere.Run.{IsFirstFault, IsTextFor, RunEndsWith, RunLeaves};
+ghost use Rattle.documents.specs.Reading.{IsReadOr};
+ghost use Rattle.documents.specs.chunkwhere.Run.{RunEndsWith, RunLeaves, text_of};
 ghost use Rattle.documents.specs.declared.chunkwhere.run_fault.RunFault.TheVariants.{Memory};
 
 mod answer;
@@ -79,8 +80,7 @@ pub fn run<R: Read, W: Write>(
 
 /// The text that answers an input, or the first fault.
 fn answer_input(alloc: Global, input: Vec<u8>) -> Result<String, RunFault>
-    ensures { MatchResult result (λ text. IsTextFor input.items (string_bytes text))
-        (λ fault. (fault ≡ Memory) ⊎ IsFirstFault input.items fault) }
+    ensures { IsReadOr Memory string_bytes (text_of input.items) result }
 {
     let document = parse(alloc, &input)?;
     drop(input);

@@ -12,6 +12,8 @@ mod document;
 mod document_fault;
 mod stored;
 
-pub use document::{read_object, read_shape, required_member, take_stored};
+pub use document::{
+    check_members, optional_member, read_object, read_shape, required_member, take_stored,
+};
 pub use document_fault::DocumentFault;
 pub use stored::{CreateFault, Stored};

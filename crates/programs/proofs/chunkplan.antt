@@ -5,7 +5,6 @@ pub mod Behind
 pub mod CountedPlans
 pub mod Digits
 pub mod Exits
-pub mod FormFaults
 pub mod Inputs
 pub mod KeyDocuments
 pub mod KeyLines

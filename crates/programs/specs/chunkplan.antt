@@ -1,6 +1,5 @@
 pub mod CountsLine
 pub mod Document
-pub mod DocumentFault
 pub mod Keys
 pub mod Known
 pub mod Line

@@ -20,13 +20,10 @@
 //! | `missing` | what is left of a plan beside keys |
 //! | `product` | products of numbers, in decimal digits |
 //! | `run_fault` | why a run stops |
-ghost use Rattle.std.specs.Prelude.{◌≡◌, ◌≤◌, ◌⊎◌, ℕ, false, IfOk, IfSome, List, MatchResult, OnOk, Some};
+ghost use Rattle.std.specs.Prelude.{◌≡◌, ◌≤◌, ◌⊎◌, ℕ, false, IfOk, IfSome, List, MatchResult, Ok, Err, OnOk, Some};
 ghost use Rattle.std.specs.Io.KnownBytes.{Keeps};
 ghost use Rattle.streams.specs.Watched.{has_failed, watched};
-ghost use Rattle.serde_json.specs.Data.{Data};
-ghost use Rattle.zarrs_chunk_base.specs.Json.{IsJsonOf};
-ghost use Rattle.programs.specs.chunkplan.Document.{IsDocument, document_of};
-ghost use Rattle.programs.specs.chunkplan.DocumentFault.{IsInputFault};
+ghost use Rattle.programs.specs.chunkplan.Document.{document_in, document_of};
 ghost use Rattle.programs.specs.chunkplan.Keys.{HasKeysBehind, first_line};
 ghost use Rattle.programs.specs.chunkplan.PlanFault.{IsFirstFault, IsWholeFault};
 ghost use Rattle.programs.specs.chunkplan.Planned.{IsPlanOf};
@@ -175,9 +172,7 @@ fn answer<W: Write>(alloc: Global, input: Vec<u8>, sink: &mut Sink<W>) -> Result
 /// # Errors
 /// As of `parse`. An input that is no JSON, but a document of several lines with keys after it, isn't one line.
 fn parse_whole(alloc: Global, input: &[u8]) -> Result<Document, RunFault>
-    ensures { MatchResult result
-        (λ document. (tree : Data) × IsJsonOf input.now tree
-        × IsDocument tree (document_of document))
+    ensures { MatchResult result (λ document. document_in input.now (Ok (document_of document)))
         (λ fault. (fault ≡ Memory) ⊎ IsWholeFault input.now fault) }
 {
     match parse(alloc, input) {
@@ -191,7 +186,7 @@ fn parse_whole(alloc: Global, input: &[u8]) -> Result<Document, RunFault>
 /// # Errors
 /// Out of memory.
 fn whole_fault(alloc: Global, input: &[u8], fault: RunFault) -> Result<RunFault, AllocError>
-    requires { (fault ≡ Memory) ⊎ IsInputFault input.now fault }
+    requires { (fault ≡ Memory) ⊎ document_in input.now (Err fault) }
     ensures { IfOk result (λ told. (told ≡ Memory) ⊎ IsWholeFault input.now told) }
 {
     if !is_not_json(&fault) {

@@ -1,13 +1,9 @@
 -- The outcomes of a run, put together from its steps.
-use Rattle.std.proofs.Common.{◌≡◌, ◌∙◌, ◌⊎◌, ℕ, Bool, true, false, List, ◌++◌, Some, Err, ap, codes, inl, inr, refl, true≢false}
-use Rattle.serde_json.specs.Data.{Data}
+use Rattle.std.proofs.Common.{◌≡◌, ◌∙◌, ◌⊎◌, ℕ, Bool, true, false, List, ◌++◌, Some, Ok, Err, ap, inl, inr, refl, true≢false}
 use Rattle.streams.specs.Streams.{IsReadToEnd, IsWritten, Streams}
 use Rattle.streams.specs.Watched.{IsReadFailure}
-use Rattle.documents.specs.chunkwhere.Answer.{IsIndexFault, not_stored, wrong_index}
-use Rattle.documents.specs.chunkwhere.Document.{IsFormFault, TellsMissing, TellsWrongValue, misformed_indices, misformed_keys, misformed_shape}
-use Rattle.documents.specs.chunkwhere.Document.{misformed_stored, missing}
-use Rattle.documents.specs.chunkwhere.Document.{no_object, not_of_form}
-use Rattle.documents.specs.chunkwhere.Run.{IsFirstFault, no_document, no_answer, IsTextFor, RunLeaves}
+use Rattle.documents.specs.chunkwhere.Answer.{IsIndexFault}
+use Rattle.documents.specs.chunkwhere.Run.{RunLeaves, text_of}
 use Rattle.documents.specs.chunkwhere.RunFault.{of_create, of_document, of_stream}
 use Rattle.documents.specs.declared.chunkwhere.run_fault.RunFault.{RunFault}
 use Rattle.documents.specs.declared.chunkwhere.run_fault.RunFault.TheVariants.{Memory, Read, Write}
@@ -44,19 +40,11 @@ of_create_still (Grid _) = refl
 of_create_still (Encoding _) = refl
 of_create_still NoRoom = refl
 
-form_still : (d : Data) (fault : RunFault) → IsFormFault d fault → moves fault ≡ false
-form_still d fault (missing name _ is) = still (TellsMissing name) (λ h. h) (λ h. h) fault is
-form_still d fault (misformed_shape _ _ is) = still (TellsWrongValue (codes "shape")) (λ h. h) (λ h. h) fault is
-form_still d fault (misformed_stored told _ _ _ same) = ap moves same ∙ of_document_still told
-form_still d fault (misformed_indices _ _ _ _ _ is) = still (TellsWrongValue (codes "indices")) (λ h. h) (λ h. h) fault is
-form_still d fault (misformed_keys _ _ _ _ _ _ is) = still (TellsWrongValue (codes "keys")) (λ h. h) (λ h. h) fault is
-
-first_still : (input : List ℕ) (fault : RunFault) → IsFirstFault input fault → moves fault ≡ false
-first_still input fault (no_document (no_object told _ same)) = ap moves same ∙ of_document_still told
-first_still input fault (no_document (not_of_form tree _ is)) = form_still tree fault is
-first_still input fault (no_answer _ _ _ _ (not_stored told _ same)) = ap moves same ∙ of_create_still told
-first_still input fault (no_answer _ document _ _ (wrong_index grid _ _ is)) =
-    still (IsIndexFault grid.dimensions document.indices) (λ h. h) (λ h. h) fault is
+first_still : (input : List ℕ) (fault : RunFault) → text_of input (Err fault) → moves fault ≡ false
+first_still input fault (inl (told, _, same)) = ap moves same ∙ of_document_still told
+first_still input fault (inr (_, _, inl (told, _, same))) = ap moves same ∙ of_create_still told
+first_still input fault (inr (document, _, inr (array, _, is))) =
+    still (IsIndexFault array.0.dimensions document.indices) (λ h. h) (λ h. h) fault is
 
 -- ---- reading
 
@@ -67,7 +55,7 @@ read_stops input held NoMoreMemory s before is not_read written = (is ∙ not_re
 read_stops input held WriteFailed s before never not_read written = absurd never
 
 -- why a run has no text, where a read did not fail
-pub leaves_no_text : (input held : List ℕ) (fault : RunFault) (s : Streams) → (fault ≡ Memory) ⊎ IsFirstFault input fault → IsReadToEnd s
+pub leaves_no_text : (input held : List ℕ) (fault : RunFault) (s : Streams) → (fault ≡ Memory) ⊎ text_of input (Err fault) → IsReadToEnd s
     → IsWritten held s → RunLeaves input held (Err fault) s
 leaves_no_text input held fault s (inl is) end written = rw is (end.1, written)
 leaves_no_text input held Read s (inr first) end written = absurd (true≢false (first_still input Read first))
@@ -78,7 +66,7 @@ leaves_no_text input held _ s (inr first) end written = (end, first, written)
 -- ---- after everything was read
 
 -- a beginning of the text was written
-pub leaves_some : (input held text : List ℕ) (fault : StreamFault) (s : Streams) → IsTextFor input text → IsReadToEnd s
+pub leaves_some : (input held text : List ℕ) (fault : StreamFault) (s : Streams) → text_of input (Ok text) → IsReadToEnd s
     → ((written : List ℕ) × (rest : List ℕ) × (text ≡ written ++ rest) × (s.holds ≡ Some (held ++ written)))
     → (fault ≡ WriteFailed) × (s.write_failed ≡ true) → RunLeaves input held (Err (of_stream fault)) s
 leaves_some input held text fault s is_text end (written, rest, all, is_held) failed =

@@ -1,18 +1,15 @@
 -- The program's document: a JSON object with the members `shape`, `chunk_grid`, `chunk_key_encoding`
 -- and `indices`, and where it has one, `keys`; what else it has says nothing.
-use Rattle.std.specs.Prelude.{◌≡◌, ℕ, List, [], ◌∷◌, map, IsSome, Option, Some, None, option_and_then, unwrap_or, codes, string_bytes}
+use Rattle.std.specs.Prelude.{ℕ, List, [], map, Option, Some, None, Result, option_and_then, unwrap_or, codes, string_bytes}
 use Rattle.serde_json.specs.Data.{Data}
 use Rattle.serde_json.specs.Find.{get, as_str}
 use Rattle.serde_json.specs.View.{view}
 use Rattle.serde_json.specs.declared.value.Value.{Value}
-use Rattle.zarrs_chunk_base.specs.First.{IsFirst}
 use Rattle.zarrs_chunk_base.specs.Json.{size_of, list_of}
-use Rattle.documents.specs.Document.{HasAll, HasStored, IsObjectOf, IsStoredFault, IsTextFault, shape_in}
+use Rattle.documents.specs.Document.{in_form, members_in, object_in, required, shape_in, stored_in}
+use Rattle.documents.specs.Reading.{gives, then}
 use Rattle.documents.specs.Stored.{Stored, stored_of}
-use Rattle.documents.specs.chunkwhere.RunFault.{of_document}
 use Rattle.documents.specs.declared.chunkwhere.document.Document.{Document as DocumentValue}
-use Rattle.documents.specs.declared.chunkwhere.run_fault.RunFault.{RunFault}
-use Rattle.documents.specs.declared.chunkwhere.run_fault.RunFault.TheVariants.{Missing, WrongValue}
 use Rattle.documents.specs.declared.document_fault.DocumentFault.{DocumentFault}
 
 -- a document, without where it lies in memory
@@ -52,43 +49,17 @@ texts_of (Some texts) = list_of as_str texts
 abbrev pub keys_in : Data → Option (List (List ℕ))
 keys_in d = texts_of (get (codes "keys") d)
 
--- the document that a tree stands for
-pub record IsDocument (d : Data) (document : Document) : Type 0 where
-  pub shape : shape_in d ≡ Some document.shape
-  pub stored : HasStored d document.stored
-  pub indices : indices_in d ≡ Some document.indices
-  pub keys : keys_in d ≡ Some document.keys
+-- the document that an object stands for, or its first fault
+abbrev pub form_in : Data → Result Document DocumentFault → Type 0
+form_in d =
+    then (members_in d) (λ _.
+    then (required (codes "indices") (codes "indices") d) (λ _.
+    then (shape_in (codes "shape") d) (λ shape.
+    then (stored_in (codes "chunk_grid") (codes "chunk_key_encoding") d) (λ stored.
+    then (in_form indices_in (codes "indices") d) (λ indices.
+    then (in_form keys_in (codes "keys") d) (λ keys.
+    gives (record { shape = shape; stored = stored; indices = indices; keys = keys })))))))
 
--- the fault says that the member of this name is missing, or isn't of its form
-abbrev pub TellsMissing : List ℕ → RunFault → Type 0
-TellsMissing name (Missing told) = told.now ≡ name
-TellsMissing _ _ = ⊥
-
-abbrev pub TellsWrongValue : List ℕ → RunFault → Type 0
-TellsWrongValue name (WrongValue told) = told.now ≡ name
-TellsWrongValue _ _ = ⊥
-
--- the members that have to be there, in the order in which a missing one is reported
-abbrev pub document_members : List (List ℕ)
-document_members = codes "shape" ∷ codes "chunk_grid" ∷ codes "chunk_key_encoding" ∷ codes "indices" ∷ []
-
--- each member that has to be there is
-abbrev pub HasMembers : Data → Type 0
-HasMembers = HasAll document_members
-
--- The first fault of an object that is no document: a member is missing; and then, of the shape, of how the array is stored, of `indices` and
--- of `keys`, the first that isn't of its form.
-pub data IsFormFault (d : Data) (fault : RunFault) : Type 0 where
-  missing : (name : List ℕ) → IsFirst (λ member. get member d ≡ None) document_members name → TellsMissing name fault → IsFormFault d fault
-  misformed_shape : HasMembers d → shape_in d ≡ None → TellsWrongValue (codes "shape") fault → IsFormFault d fault
-  misformed_stored : (told : DocumentFault) → HasMembers d → IsSome (shape_in d)
-      → IsStoredFault d (codes "chunk_grid") (codes "chunk_key_encoding") told → fault ≡ of_document told → IsFormFault d fault
-  misformed_indices : (stored : Stored) → HasMembers d → IsSome (shape_in d) → HasStored d stored → indices_in d ≡ None
-      → TellsWrongValue (codes "indices") fault → IsFormFault d fault
-  misformed_keys : (stored : Stored) → HasMembers d → IsSome (shape_in d) → HasStored d stored → IsSome (indices_in d) → keys_in d ≡ None
-      → TellsWrongValue (codes "keys") fault → IsFormFault d fault
-
--- The first fault of an input that is no document: it is no text of an object, or its object isn't of the form.
-pub data IsInputFault (input : List ℕ) (fault : RunFault) : Type 0 where
-  no_object : (told : DocumentFault) → IsTextFault input told → fault ≡ of_document told → IsInputFault input fault
-  not_of_form : (tree : Data) → IsObjectOf input tree → IsFormFault tree fault → IsInputFault input fault
+-- the document that an input is the text of, or its first fault
+abbrev pub document_in : (input : List ℕ) → Result Document DocumentFault → Type 0
+document_in input = then (object_in input) form_in

@@ -3,7 +3,8 @@ ghost use Rattle.std.specs.Prelude.{◌≡◌, ◌≢◌, ◌⊎◌, ℕ, List, 
 ghost use Rattle.std.specs.List.{AllByRecursion};
 ghost use Rattle.zarrs_chunk_base.specs.Refusal.{OrMemory, TellsLengths};
 ghost use Rattle.zarrs_chunk_keys.specs.Numeral.{IsNumerals};
-ghost use Rattle.documents.specs.chunkwhere.Answer.{HasLengthOf, IsAnswer, IsAnswerFault, IsIndexFault};
+ghost use Rattle.documents.specs.Reading.{IsReadOr};
+ghost use Rattle.documents.specs.chunkwhere.Answer.{HasLengthOf, IsIndexFault, answer_of};
 ghost use Rattle.documents.specs.chunkwhere.Document.{document_of, lists_in};
 ghost use Rattle.documents.specs.chunkwhere.Output.{AreLines, IsKeyLine, IsKeyOf, IsLine};
 ghost use Rattle.documents.specs.declared.chunkwhere.run_fault.RunFault.TheVariants.{Memory};
@@ -20,8 +21,7 @@ use zarrs_chunks::{ChunkGridTraits, Home};
 
 /// The whole text that answers a document, or the first fault.
 pub(crate) fn answer(alloc: Global, document: Document) -> Result<String, RunFault>
-    ensures { MatchResult result (λ text. IsAnswer (document_of document) (string_bytes text))
-        (λ fault. (fault ≡ Memory) ⊎ IsAnswerFault (document_of document) fault) }
+    ensures { IsReadOr Memory string_bytes (answer_of (document_of document)) result }
 {
     let Document {
         shape,

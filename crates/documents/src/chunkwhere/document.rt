@@ -1,13 +1,12 @@
 //! The program's document.
-ghost use Rattle.std.specs.Prelude.{◌≡◌, ◌⊎◌, IfOk, MatchResult, map, option_map, string_bytes};
-ghost use Rattle.serde_json.specs.Data.{Data};
+ghost use Rattle.std.specs.Prelude.{◌≡◌, IfOk, map, option_map, string_bytes};
 ghost use Rattle.serde_json.specs.View.{view};
-ghost use Rattle.zarrs_chunk_base.specs.Json.{IsJsonOf};
-ghost use Rattle.documents.specs.chunkwhere.Document.{document_of, indices_in, keys_in, lists_in, IsDocument, IsFormFault, IsInputFault};
-ghost use Rattle.documents.specs.declared.chunkwhere.run_fault.RunFault.TheVariants.{Memory};
+ghost use Rattle.documents.specs.Reading.{IsReadOr};
+ghost use Rattle.documents.specs.chunkwhere.Document.{document_in, document_of, form_in, indices_in, keys_in, lists_in};
+ghost use Rattle.documents.specs.declared.document_fault.DocumentFault.TheVariants.{Memory};
 
-use crate::chunkwhere::RunFault;
-use crate::document::{read_object, read_shape, required_member, take_stored};
+use crate::document::{check_members, read_object, read_shape, required_member, take_stored};
+use crate::document_fault::DocumentFault;
 use crate::stored::Stored;
 use serde_json::Value;
 use std::alloc::{AllocError, Global};
@@ -25,33 +24,27 @@ pub(crate) struct Document {
 }
 
 /// The document that an input is the text of, or the first fault.
-pub(crate) fn parse(alloc: Global, input: &[u8]) -> Result<Document, RunFault>
-    ensures { MatchResult result
-        (λ document. (tree : Data) × IsJsonOf input.now tree
-        × IsDocument tree (document_of document))
-        (λ fault. (fault ≡ Memory) ⊎ IsInputFault input.now fault) }
+pub(crate) fn parse(alloc: Global, input: &[u8]) -> Result<Document, DocumentFault>
+    ensures { IsReadOr Memory document_of (document_in input.now) result }
 {
     let tree = read_object(alloc, input)?;
     document_from(alloc, tree)
 }
 
 /// The document that an object stands for, or the first fault.
-fn document_from(alloc: Global, mut tree: Value) -> Result<Document, RunFault>
-    ensures { MatchResult result (λ document. IsDocument (view tree) (document_of document))
-        (λ fault. (fault ≡ Memory) ⊎ IsFormFault (view tree) fault) }
+fn document_from(alloc: Global, mut tree: Value) -> Result<Document, DocumentFault>
+    ensures { IsReadOr Memory document_of (form_in (view tree)) result }
 {
-    required_member(&tree, "shape", "shape")?;
-    required_member(&tree, "chunk_grid", "chunk_grid")?;
-    required_member(&tree, "chunk_key_encoding", "chunk_key_encoding")?;
+    check_members(&tree)?;
     required_member(&tree, "indices", "indices")?;
     let shape = read_shape(alloc, &tree, "shape")?;
     let stored = take_stored(alloc, &mut tree, "chunk_grid", "chunk_key_encoding")?;
     let keys = read_keys(alloc, &tree)?;
     let Some(indices) = take_indices(alloc, tree)? else {
-        return Err(RunFault::WrongValue("indices"));
+        return Err(DocumentFault::WrongValue("indices"));
     };
     let Some(keys) = keys else {
-        return Err(RunFault::WrongValue("keys"));
+        return Err(DocumentFault::WrongValue("keys"));
     };
     Ok(Document {
         shape,

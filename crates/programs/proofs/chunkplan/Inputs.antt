@@ -29,10 +29,10 @@ module _ (input : List ℕ) (read : Bool) (left : Option (List ℕ)) (before aft
   sent_beside_keys has start not_read leaves =
       read_step_follows (IsTextOfLine (first_line input) (behind_first input)) (IsPlanOf input)
       (IsFaultOfLine (first_line input) (behind_first input)) IsFault
-      (λ text (tree, document, json, stands, (keys, are, planned)). of_keys tree document keys has json stands are planned)
+      (λ text (document, stands, (keys, are, planned)). of_keys document keys has stands are planned)
       (λ fault is. (
         λ none. absurd (none has),
         ⊎_elim (λ of_line. no_first_document has of_line)
-            (λ (tree, document, json, stands, beside). beside_keys tree document has json stands beside) is,
+            (λ (document, stands, beside). beside_keys document has stands beside) is,
       ))
       false read left before after r (rw not_read at leaves)

@@ -1,18 +1,19 @@
 -- What a document before keys asks for.
-use Rattle.std.proofs.Common.{◌≡◌, ◌⊎◌, ◌∙◌, ℕ, true, Contains, IsFalse, IsSome, List, Option, None, Some, ap, codes, inl, inr, is_some, refl, sym, true≢false, arith}
+use Rattle.std.proofs.Common.{◌≡◌, ◌⊎◌, ◌∙◌, ℕ, true, false, Contains, IsFalse, IsSome, List, Option, None, Some, Ok, codes, inl, inr, refl}
+use Rattle.std.proofs.Common.{arith, sym, true≢false}
 use Rattle.std.proofs.lemmas.List.Elements.{All-contains, All-from_recursion}
-use Rattle.std.proofs.lemmas.Option.{none-some, same_Some}
+use Rattle.std.proofs.lemmas.Option.{same_Some}
 use Rattle.serde_json.specs.Data.{Data}
 use Rattle.serde_json.specs.Find.{get}
 use Rattle.zarrs_chunk_base.specs.ArraySubset.{Box}
-use Rattle.zarrs_chunk_base.specs.Json.{IsJsonOf}
 use Rattle.zarrs_chunk_plan.specs.declared.shares.share.Share.{Share}
+use Rattle.documents.specs.Reading.{optional}
 use Rattle.documents.specs.Stored.{Stored}
-use Rattle.programs.specs.chunkplan.Document.{Document, HasFlag, HasWanted, AsksForLinesOfCopy, IsDocument, IsTask, Task, Wanted, copy_to, counts_wanted}
-use Rattle.programs.specs.chunkplan.Document.{HasOrder, lines_wanted, read_of, rechunk_by_source, rechunk_to, rechunk_within, resize_to}
+use Rattle.programs.specs.chunkplan.Document.{AsksForLinesOfCopy, Document, Task, Wanted, copy_to, document_in, flag_in, lines_wanted, rechunk_to}
+use Rattle.programs.specs.chunkplan.Document.{rechunking_in, region_in, task_in, wanted_in}
 use Rattle.programs.specs.chunkplan.Keys.{HasKeysBehind}
 use Rattle.programs.specs.chunkplan.MemberRules.{Fit, Rule, excludes, is_broken, needs, rules}
-use Rattle.programs.specs.declared.chunkplan.line.Order.TheVariants.{Source}
+use Rattle.programs.specs.declared.chunkplan.line.Order.TheVariants.{Target}
 
 -- ---- what a document has that breaks no rule
 
@@ -28,47 +29,55 @@ is_beside d fit member other among there = let unbroken = kept d fit (needs memb
 none_beside : (d : Data) → Fit d → (member other : List ℕ) → Contains rules (excludes member other) → IsSome (get member d) → get other d ≡ None
 none_beside d fit member other among there = let unbroken = kept d fit (excludes member other) among in grind arith
 
+none_before : (d : Data) → Fit d → (member other : List ℕ) → Contains rules (excludes member other) → IsSome (get other d) → get member d ≡ None
+none_before d fit member other among there = let unbroken = kept d fit (excludes member other) among in grind arith
+
 -- a flag that is true is there
-flag_is_there : (d : Data) (field : List ℕ) → HasFlag d field true → (m : Data) × (get field d ≡ Some m)
+flag_is_there : (d : Data) (field : List ℕ) → flag_in field d (Ok true) → IsSome (get field d)
 flag_is_there d field is = grind arith
 
--- what is there isn't missing
-not_missing : (d m : Data) (field : List ℕ) → get field d ≡ Some m → ¬ (get field d ≡ None)
-not_missing d m field there none = none-some m (sym none ∙ there)
+are_lines : (d : Data) (wanted : Wanted) → wanted_in d (Ok wanted) → get (codes "counts") d ≡ None → (share : Share) × (wanted ≡ lines_wanted share)
+are_lines d wanted (counts, flag, by) none =
+    let no : counts ≡ false = rw none at flag in
+    let (share, _, same) = rw no at by in
+    (share, same)
 
-source_is_there : (d : Data) → HasOrder d Source → IsSome (get (codes "order") d)
-source_is_there d is = grind arith
-
-are_lines : (d : Data) (wanted : Wanted) → HasWanted d wanted → get (codes "counts") d ≡ None → (share : Share) × (wanted ≡ lines_wanted share)
-are_lines d (lines_wanted share) has none = (share, refl)
-are_lines d counts_wanted has none = let (m, there) = flag_is_there d (codes "counts") has in absurd (not_missing d m (codes "counts") there none)
-
-is_copy : (d : Data) (task : Task) → IsTask d task → IsSome (get (codes "target") d)
-    → (IsSome (get (codes "resize") d) → get (codes "target") d ≡ None) → (¬ IsSome (get (codes "order") d))
-    → (¬ IsSome (get (codes "max_elements") d))
-    → ((stored : Stored) × (chunks : Option Box) × (task ≡ rechunk_to stored chunks))
+-- the task is a rechunking in the order of the target, or the copy of a region
+abbrev IsCopy : Task → Type 0
+IsCopy task = ((stored : Stored) × (chunks : Option Box) × (task ≡ rechunk_to stored chunks))
     ⊎ ((shape : List ℕ) × (stored : Stored) × (region : Box) × (at : Option (List ℕ)) × (task ≡ copy_to shape stored region at))
-is_copy d (read_of subset clip ranges) is some no_resize no_order no_bound = absurd (true≢false (sym some ∙ ap is_some is.1.0))
-is_copy d (rechunk_to stored chunks) is some no_resize no_order no_bound = inl (stored, chunks, refl)
-is_copy d (rechunk_by_source stored) is some no_resize no_order no_bound =
-    let (m, there, (_, _, _, order, _)) = is.1 in absurd (no_order (source_is_there d order))
-is_copy d (rechunk_within stored most stage) is some no_resize no_order no_bound =
-    let (m, there, (_, _, _, (_, bound, _), _)) = is.1 in absurd (no_bound (ap is_some bound))
-is_copy d (copy_to shape stored region at) is some no_resize no_order no_bound = inr (shape, stored, region, at, refl)
-is_copy d (resize_to shape keep) is some no_resize no_order no_bound =
-    let (m, there, _) = is.0 in
-    absurd (true≢false (sym some ∙ ap is_some (no_resize (ap is_some there))))
 
-pub copy_of_lines : (line : List ℕ) (d : Data) (document : Document) → IsJsonOf line d → IsDocument d document → HasKeysBehind line
-    → AsksForLinesOfCopy document
-copy_of_lines line d document json stands (other, also, flag) =
-    let same : other ≡ d = same_Some other d (sym also.1 ∙ json.1) in
-    let (m, there) = flag_is_there d (codes "keys") (rw same at flag) in
-    let some = ap is_some there in
-    let fit = stands.fitting in (
-      are_lines d document.wanted stands.wanted (none_beside d fit (codes "keys") (codes "counts") (21, omega arith, refl) some),
-      is_copy d document.task stands.task (is_beside d fit (codes "keys") (codes "target") (20, omega arith, refl) some)
-          (none_beside d fit (codes "resize") (codes "target") (0, omega arith, refl))
-          (λ ordered. not_missing d m (codes "keys") there (none_beside d fit (codes "order") (codes "keys") (26, omega arith, refl) ordered))
-          (λ bounded. not_missing d m (codes "keys") there (none_beside d fit (codes "max_elements") (codes "keys") (34, omega arith, refl) bounded)),
+module _ (d : Data) (task : Task) where
+  to_target : (target : Data) (subset : Option Data) → get (codes "order") d ≡ None → get (codes "max_elements") d ≡ None
+      → optional (rechunking_in d target) (region_in d target) subset (Ok task) → IsCopy task
+  to_target target None no_order no_bound (_, _, (stored, _, (most, bound, is))) =
+      let none : most ≡ None = rw no_bound at bound in
+      let (order, ordered, by) = rw none at is in
+      let in_target : order ≡ Target = rw no_order at ordered in
+      let (chunks, _, same) = rw in_target at by in
+      inl (stored, chunks, same)
+  to_target target (Some subset) no_order no_bound (_, _, (shape, _, (stored, _, (region, _, (at, _, same))))) =
+      inr (shape, stored, region, at, same)
+
+  is_copy : (target : Option Data) → IsSome target → get (codes "resize") d ≡ None → get (codes "order") d ≡ None
+      → get (codes "max_elements") d ≡ None → task_in d target (Ok task) → IsCopy task
+  is_copy (Some target) some no_resize no_order no_bound (resize, resized, is) =
+      let none : resize ≡ None = rw no_resize at resized in
+      let (_, _, to) = rw none at is in
+      to_target target (get (codes "subset") d) no_order no_bound to
+  is_copy None some no_resize no_order no_bound is = absurd (true≢false (sym some))
+
+pub copy_of_lines : (line : List ℕ) (document : Document) → document_in line (Ok document) → HasKeysBehind line → AsksForLinesOfCopy document
+copy_of_lines line document (d, json, (_, (_, _, (_, _, fit)), (_, _, (wanted, are_wanted, (_, _, (_, _, (task, is_task, same)))))))
+    (other, also, flag) =
+    let one : other ≡ d = same_Some other d (sym also.1 ∙ json.0.1) in
+    let some = flag_is_there d (codes "keys") (rw one at flag) in
+    let target = is_beside d fit (codes "keys") (codes "target") (20, omega arith, refl) some in
+    let without : (member : List ℕ) → Contains rules (excludes member (codes "keys")) → get member d ≡ None =
+    λ member among. none_before d fit member (codes "keys") among some in
+    rw same (
+      are_lines d wanted are_wanted (none_beside d fit (codes "keys") (codes "counts") (21, omega arith, refl) some),
+      is_copy d task (get (codes "target") d) target (without (codes "resize") (7, omega arith, refl))
+          (without (codes "order") (26, omega arith, refl))
+          (without (codes "max_elements") (34, omega arith, refl)) is_task,
     )

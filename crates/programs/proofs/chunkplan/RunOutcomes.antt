@@ -7,10 +7,7 @@ use Rattle.zarrs_chunk_base.specs.ArraySubset.{Box}
 use Rattle.zarrs_chunk_base.specs.Dimension.{Dimension}
 use Rattle.zarrs_chunk_plan.specs.declared.copy.region_error.RegionError.{RegionError}
 use Rattle.streams.specs.Streams.{IsReadToEnd, Streams}
-use Rattle.programs.specs.chunkplan.Document.{Document, Wanted}
-use Rattle.programs.specs.chunkplan.DocumentFault.{HasBoxFault, HasWantedFault, IsCopyingFault, IsFormFault, IsInputFault}
-use Rattle.programs.specs.chunkplan.DocumentFault.{IsTaskFault, IsTaskToFault}
-use Rattle.programs.specs.chunkplan.DocumentFault.{HasRangesFault}
+use Rattle.programs.specs.chunkplan.Document.{Document, Wanted, copying_in, document_in, form_in, rechunking_in, region_in}
 use Rattle.programs.specs.chunkplan.PlanFault.{IsCopyFault, IsFaultBeside, IsFirstFault, IsPlanFault, IsWholeFault}
 use Rattle.programs.specs.chunkplan.PlanFault.{beside_keys, long_document, no_document, no_first_document, of_input, several_lines}
 use Rattle.programs.specs.chunkplan.PlanFault.{IsFaultWithin, no_plan}
@@ -48,27 +45,17 @@ of_create_still told = grind arith
 of_region_still : (told : RegionError) → moves (of_region_error told) ≡ false
 of_region_still told = grind arith
 
-box_still : (d : Data) (field : List ℕ) (fault : RunFault) → HasBoxFault d field fault → moves fault ≡ false
-box_still d field fault is = grind arith
-
-target_still : (d target : Data) (fault : RunFault) → IsTaskToFault d target fault → moves fault ≡ false
+target_still : (d target : Data) (fault : RunFault) → rechunking_in d target (Err fault) → moves fault ≡ false
 target_still d target fault is = grind (arith, of_document_still)
 
-ranges_still : (d : Data) (fault : RunFault) → HasRangesFault d fault → moves fault ≡ false
-ranges_still d fault is = grind arith
+region_still : (d target subset : Data) (fault : RunFault) → region_in d target subset (Err fault) → moves fault ≡ false
+region_still d target subset fault is = grind (arith, of_document_still)
 
-copying_still : (d : Data) (fault : RunFault) → IsCopyingFault d fault → moves fault ≡ false
-copying_still d fault is = grind (arith, box_still, ranges_still, target_still)
+copying_still : (d : Data) (target : Option Data) (fault : RunFault) → copying_in d target (Err fault) → moves fault ≡ false
+copying_still d target fault is = grind (arith, of_document_still, region_still, target_still)
 
-task_still : (d : Data) (fault : RunFault) → IsTaskFault d fault → moves fault ≡ false
-task_still d fault is = grind (arith, copying_still)
-
--- a fault of what is wanted is a wrong value
-wanted_still : (d : Data) (fault : RunFault) → HasWantedFault d fault → moves fault ≡ false
-wanted_still d fault is = grind arith
-
-form_still : (d : Data) (fault : RunFault) → IsFormFault d fault → moves fault ≡ false
-form_still d fault is = grind (arith, of_document_still, wanted_still, task_still)
+form_still : (d : Data) (fault : RunFault) → form_in d (Err fault) → moves fault ≡ false
+form_still d fault is = grind (arith, of_document_still, copying_still)
 
 copy_still : (source target : List Dimension) (region : Box) (at : List ℕ) (fault : RunFault) → IsCopyFault source target region at fault
     → moves fault ≡ false
@@ -81,8 +68,9 @@ within_still source target most stage wanted fault is = grind arith
 plan_still : (document : Document) (fault : RunFault) → IsPlanFault document fault → moves fault ≡ false
 plan_still document fault is = grind (arith, of_create_still, copy_still, within_still)
 
-input_still : (input : List ℕ) (fault : RunFault) → IsInputFault input fault → moves fault ≡ false
-input_still input fault is = grind (arith, of_document_still, form_still)
+input_still : (input : List ℕ) (fault : RunFault) → document_in input (Err fault) → moves fault ≡ false
+input_still input fault (inl (told, _, same)) = ap moves same ∙ of_document_still told
+input_still input fault (inr (d, _, is)) = form_still d fault is
 
 beside_still : (document : Document) (bytes : List ℕ) (fault : RunFault) → IsFaultBeside document bytes fault → moves fault ≡ false
 beside_still document bytes fault is = grind (arith, plan_still)
@@ -93,10 +81,10 @@ whole_still input fault (several_lines _ _ same) = ap moves same
 
 first_still : (input : List ℕ) (fault : RunFault) → IsFirstFault input fault → moves fault ≡ false
 first_still input fault (no_document _ is) = whole_still input fault is
-first_still input fault (long_document _ _ _ _ _ _ same) = ap moves same
-first_still input fault (no_plan _ document _ _ _ _ is) = plan_still document fault is
+first_still input fault (long_document _ _ _ _ same) = ap moves same
+first_still input fault (no_plan document _ _ _ is) = plan_still document fault is
 first_still input fault (no_first_document _ is) = input_still (first_line input) fault is
-first_still input fault (beside_keys _ document _ _ _ is) = beside_still document (behind_first input) fault is
+first_still input fault (beside_keys document _ _ is) = beside_still document (behind_first input) fault is
 
 pub no_failed_write : (document : Document) → ¬ IsPlanFault document Write
 no_failed_write document is = true≢false (plan_still document Write is)
@@ -113,10 +101,10 @@ no_read_beside document bytes is = true≢false (beside_still document bytes Rea
 pub no_write_beside : (document : Document) (bytes : List ℕ) → ¬ IsFaultBeside document bytes Write
 no_write_beside document bytes is = true≢false (beside_still document bytes Write is)
 
-pub no_read_of_input : (input : List ℕ) → ¬ IsInputFault input Read
+pub no_read_of_input : (input : List ℕ) → ¬ document_in input (Err Read)
 no_read_of_input input is = true≢false (input_still input Read is)
 
-pub no_write_of_input : (input : List ℕ) → ¬ IsInputFault input Write
+pub no_write_of_input : (input : List ℕ) → ¬ document_in input (Err Write)
 no_write_of_input input is = true≢false (input_still input Write is)
 
 pub no_read : (input : List ℕ) → ¬ IsFirstFault input Read

@@ -3,25 +3,33 @@
 -- `order`, or `max_elements` and `stage`, if they are wanted; for the copy of a region, `target` and `subset`, and `at` if it is wanted. `share` or
 -- `counts` says what is wanted of the plan, if not all lines; beside a target, `keys` that keys of its store stand behind the document. For a resize
 -- it has `resize`, and `keep` if it is wanted, and none of these. What else an array's `zarr.json` has may stand in it and in the target.
-use Rattle.std.specs.Prelude.{◌≡◌, ◌⊎◌, ◌==◌, ◌^◌, ℕ, Bool, true, false, if◌then◌else◌, List, Option, Some, None, bytes_eq, codes}
-use Rattle.std.specs.Prelude.{MatchOption}
-use Rattle.std.specs.Prelude.{nat_lt, option_and_then, option_map}
+use Rattle.std.specs.Prelude.{◌≡◌, ◌⊎◌, ◌==◌, ◌^◌, ◌≤◌, ℕ, Bool, true, false, cond, IsSome, IsTrue, List, Option, Some, None, Result, Ok, Err}
+use Rattle.std.specs.Prelude.{bytes_eq, codes, nat_lt, option_and_then, option_map}
 use Rattle.std.specs.Int.NonZero.{non_zero_u64_get}
 use Rattle.serde_json.specs.Data.{Data}
-use Rattle.serde_json.specs.Find.{as_bool, as_str, get}
+use Rattle.serde_json.specs.Find.{as_bool, as_object, as_str, get}
 use Rattle.zarrs_chunk_base.specs.ArraySubset.{Box, IsBox}
+use Rattle.zarrs_chunk_base.specs.ArraySubsetError.{IsBoxFault}
+use Rattle.zarrs_chunk_base.specs.First.{IsFirst}
 use Rattle.zarrs_chunk_base.specs.Json.{edge_of, list_of, pair_of, size_of}
 use Rattle.zarrs_chunk_plan.specs.declared.bytes.ranges.MemoryOrder.{MemoryOrder}
 use Rattle.zarrs_chunk_plan.specs.declared.bytes.ranges.MemoryOrder.TheVariants.{C}
 use Rattle.zarrs_chunk_plan.specs.declared.shares.share.Share.{Share}
 use Rattle.zarrs_chunk_questions.specs.Order.{order_in}
-use Rattle.documents.specs.Document.{HasStored, shape_in}
+use Rattle.documents.specs.Document.{in_form_or, members_in, object_in, optional_in, shape_in, stored_in}
+use Rattle.documents.specs.Reading.{gives, optional, then, told}
 use Rattle.documents.specs.Stored.{Stored, stored_of}
-use Rattle.programs.specs.chunkplan.Known.{Agree, HasOnly, known_members, zarr_json_members}
-use Rattle.programs.specs.chunkplan.MemberRules.{Fit}
+use Rattle.documents.specs.declared.document_fault.DocumentFault.{DocumentFault}
+use Rattle.documents.specs.declared.document_fault.DocumentFault.TheVariants.{WrongValue}
+use Rattle.programs.specs.chunkplan.Known.{Agree, Differ, HasOnly, IsFirstUnknown, known_members, zarr_json_members}
+use Rattle.programs.specs.chunkplan.MemberRules.{Fit, is_broken, rule_of, rules}
+use Rattle.programs.specs.chunkplan.RunFault.{of_document}
+use Rattle.programs.specs.declared.chunkplan.known_members.UnknownMember.{UnknownMember}
 use Rattle.programs.specs.declared.chunkplan.line.Order.{Order}
 use Rattle.programs.specs.declared.chunkplan.line.Order.TheVariants.{Source, Target}
 use Rattle.programs.specs.declared.chunkplan.ranges.RangesAsked.{RangesAsked}
+use Rattle.programs.specs.declared.chunkplan.run_fault.RunFault.{RunFault}
+use Rattle.programs.specs.declared.chunkplan.run_fault.RunFault.TheVariants as fault
 use Rattle.programs.specs.declared.chunkplan.document.Stage.{Stage}
 use Rattle.programs.specs.declared.chunkplan.document.Stage.TheVariants.{First, Second}
 use Rattle.programs.specs.declared.chunkplan.document.Document.{Document as DocumentValue}
@@ -83,117 +91,191 @@ abbrev pub document_of : DocumentValue → Document
 document_of d =
     record { shape = d.shape.items; wanted = wanted_of d.wanted; keys = d.keys; stored = stored_of d.stored; task = task_of d.task }
 
--- a list of two lists of sizes, which are the start and the shape of a box
-pub record IsBoxIn (d : Data) (b : Box) : Type 0 where
-  pub lists : pair_of (list_of size_of) d ≡ Some (b.start, b.shape)
-  pub is_box : IsBox b
+-- ---- what members say, or the first of their faults
 
--- the member is a box, or absent
-abbrev pub HasBox : Data → List ℕ → Option Box → Type 0
-HasBox d field subset = MatchOption subset (get field d ≡ None) (λ b. (m : Data) × (get field d ≡ Some m) × IsBoxIn m b)
-
--- the member is a list of sizes, or absent
-abbrev pub HasNumbers : Data → List ℕ → Option (List ℕ) → Type 0
-HasNumbers d field numbers = MatchOption numbers (get field d ≡ None) (λ ns. (m : Data) × (get field d ≡ Some m) × (list_of size_of m ≡ Some ns))
-
--- the member is of a form and says x; or it is absent, and x is what that stands for
-abbrev pub HasOr : {X : Type 0} → (form : Data → Option X) (absent : X) → Data → List ℕ → X → Type 0
-HasOr form absent d field x =
-    ((get field d ≡ None) × (x ≡ absent)) ⊎ ((m : Data) × (get field d ≡ Some m) × (form m ≡ Some x))
-
--- the member is of a form and says x, or is absent
-abbrev pub HasIfAny : {X : Type 0} → (form : Data → Option X) → Data → List ℕ → Option X → Type 0
-HasIfAny form d field x = MatchOption x (get field d ≡ None) (λ v. (m : Data) × (get field d ≡ Some m) × (form m ≡ Some v))
-
--- the member is true or false; where it is absent, as where it is false
-abbrev pub HasFlag : Data → List ℕ → Bool → Type 0
-HasFlag = HasOr as_bool false
+-- a member that is true or false; where it is absent, as where it is false
+abbrev pub flag_in : (field : List ℕ) → Data → Result Bool DocumentFault → Type 0
+flag_in = in_form_or false as_bool
 
 -- the order that a text names: that of the target or of the source
-abbrev pub line_order_in : Data → Option Order
-line_order_in d = option_and_then (λ text. if bytes_eq text (codes "target") then Some Target
-    else (if bytes_eq text (codes "source") then Some Source else None)) (as_str d)
+abbrev pub line_order_of : Data → Option Order
+line_order_of d = option_and_then (λ text. cond (bytes_eq text (codes "target")) (Some Target)
+    (cond (bytes_eq text (codes "source")) (Some Source) None)) (as_str d)
 
 -- The member `order` names the order of the lines; where it is absent, they are in that of the target.
-abbrev pub HasOrder : Data → Order → Type 0
-HasOrder d = HasOr line_order_in Target d (codes "order")
+abbrev pub line_order_in : Data → Result Order DocumentFault → Type 0
+line_order_in = in_form_or Target line_order_of (codes "order")
 
 -- the stage that a number names: the first or the second
-abbrev pub stage_in : Data → Option Stage
-stage_in d = option_and_then (λ n. if n == 1 then Some First else (if n == 2 then Some Second else None)) (size_of d)
+abbrev pub stage_of : Data → Option Stage
+stage_of d = option_and_then (λ n. cond (n == 1) (Some First) (cond (n == 2) (Some Second) None)) (size_of d)
 
 -- up to how many ranges a number lists
-abbrev pub most_in : Data → Option ℕ
-most_in d = option_and_then (λ n. if nat_lt (2 ^ 20) n then None else Some n) (size_of d)
+abbrev pub most_of : Data → Option ℕ
+most_of d = option_and_then (λ n. cond (nat_lt (2 ^ 20) n) None (Some n)) (size_of d)
 
--- The member `item_size` is a size from 1 on, and `memory_order` and `max_ranges` say the rest; where it is absent, no ranges are wanted.
-abbrev pub HasRanges : Data → Option RangesWanted → Type 0
-HasRanges d None = get (codes "item_size") d ≡ None
-HasRanges d (Some ranges) = ((m : Data) × (get (codes "item_size") d ≡ Some m) × (edge_of m ≡ Some ranges.item))
-    × HasOr order_in C d (codes "memory_order") ranges.order × HasOr most_in 0 d (codes "max_ranges") ranges.most
+-- How byte ranges are wanted: where `item_size` is there, it is a size from 1 on, and `memory_order` and `max_ranges` say the rest.
+abbrev pub ranges_by : Data → Option ℕ → Result (Option RangesWanted) DocumentFault → Type 0
+ranges_by d None = gives None
+ranges_by d (Some item) =
+    then (in_form_or C order_in (codes "memory_order") d) (λ order.
+    then (in_form_or 0 most_of (codes "max_ranges") d) (λ most.
+    gives (Some (record { item = item; order = order; most = most }))))
 
--- The member `share` is a list of the share's number, counted from 0, and how many shares there are, which is greater, as of any `Share`; where it
--- is absent, the share is the one that is the whole plan.
-abbrev pub HasShare : Data → Share → Type 0
-HasShare d share =
-    ((get (codes "share") d ≡ None) × (share.number ≡ 0) × (share.of ≡ 1))
-    ⊎ ((m : Data) × (get (codes "share") d ≡ Some m) × (pair_of size_of m ≡ Some (share.number, share.of)))
+abbrev pub ranges_in : Data → Result (Option RangesWanted) DocumentFault → Type 0
+ranges_in d = then (optional_in edge_of (codes "item_size") d) (ranges_by d)
+
+-- A list of a share's number, counted from 0, and how many shares there are, which is greater, as of any `Share`.
+abbrev pub share_of : Data → Result Share DocumentFault → Type 0
+share_of value (Ok share) = pair_of size_of value ≡ Some (share.number, share.of)
+share_of value (Err (WrongValue by)) =
+    (by.now ≡ codes "share") × ((number of : ℕ) → pair_of size_of value ≡ Some (number, of) → of ≤ number)
+share_of value (Err _) = ⊥
+
+abbrev pub whole_plan : Result Share DocumentFault → Type 0
+whole_plan (Ok share) = (share.number ≡ 0) × (share.of ≡ 1)
+whole_plan (Err fault) = ⊥
+
+-- The member `share` is such a list; where it is absent, the share is the one that is the whole plan.
+abbrev pub share_in : Data → Result Share DocumentFault → Type 0
+share_in d = optional whole_plan share_of (get (codes "share") d)
 
 -- the counts, where `counts` is true, and else the lines of a share
-abbrev pub HasWanted : Data → Wanted → Type 0
-HasWanted d (lines_wanted share) = HasFlag d (codes "counts") false × HasShare d share
-HasWanted d counts_wanted = HasFlag d (codes "counts") true
+abbrev pub wanted_by : Data → (counts : Bool) → Result Wanted DocumentFault → Type 0
+wanted_by d true = gives counts_wanted
+wanted_by d false = then (share_in d) (λ share. gives (lines_wanted share))
 
--- The target, which has no unknown member, is of the array's data type, where it says one.
-pub record IsOfType (d target : Data) : Type 0 where
-  pub known : HasOnly zarr_json_members target
-  pub same_data_type : Agree (codes "data_type") d target
+abbrev pub wanted_in : Data → Result Wanted DocumentFault → Type 0
+wanted_in d = then (flag_in (codes "counts") d) (wanted_by d)
 
--- The target, which has no unknown member, is of the same array: of its shape and data type, where it says them.
-pub record IsOfArray (d target : Data) : Type 0 where
-  pub known : HasOnly zarr_json_members target
-  pub same_shape : Agree (codes "shape") d target
-  pub same_data_type : Agree (codes "data_type") d target
+-- a list of two lists of sizes, which are the start and the shape of a box
+abbrev pub box_of : (name : List ℕ) → Data → Result Box RunFault → Type 0
+box_of name value (Ok b) = (pair_of (list_of size_of) value ≡ Some (b.start, b.shape)) × IsBox b
+box_of name value (Err (fault.WrongValue by)) = (by.now ≡ name) × (pair_of (list_of size_of) value ≡ None)
+box_of name value (Err (fault.Box by error)) = (by.now ≡ name)
+    × (start : List ℕ) × (shape : List ℕ) × (pair_of (list_of size_of) value ≡ Some (start, shape)) × IsBoxFault start shape error
+box_of name value (Err _) = ⊥
 
--- What is asked for with this target: where there is no `subset`, a rechunking, with the target's own two members, and `max_elements` and `stage`, or
--- `order`, and in that of the target `chunks`; and else the copy of a region, with the target's `shape` too, and `at`.
-abbrev pub IsTaskTo : (d target : Data) → Task → Type 0
-IsTaskTo d target (read_of subset clip ranges) = ⊥
-IsTaskTo d target (rechunk_to stored chunks) =
-    (get (codes "subset") d ≡ None) × IsOfArray d target × HasStored target stored × HasOrder d Target × HasBox d (codes "chunks") chunks
-    × (get (codes "max_elements") d ≡ None)
-IsTaskTo d target (rechunk_by_source stored) =
-    (get (codes "subset") d ≡ None) × IsOfArray d target × HasStored target stored × HasOrder d Source × (get (codes "max_elements") d ≡ None)
-IsTaskTo d target (rechunk_within stored most stage) =
-    (get (codes "subset") d ≡ None) × IsOfArray d target × HasStored target stored × HasIfAny size_of d (codes "max_elements") (Some most)
-    × HasIfAny stage_in d (codes "stage") stage
-IsTaskTo d target (copy_to shape stored region at) = IsOfType d target × (shape_in target ≡ Some shape) × HasStored target stored
-    × HasBox d (codes "subset") (Some region) × HasNumbers d (codes "at") at
-IsTaskTo d target (resize_to shape keep) = ⊥
+-- a member that is one, where it is there
+abbrev pub box_in : (field : List ℕ) → Data → Result (Option Box) RunFault → Type 0
+box_in field d = optional (gives None) (λ m. then (box_of field m) (λ b. gives (Some b))) (get field d)
 
--- `subset`, `clip` and byte ranges, where there is no target, or what is asked for with it
-abbrev pub IsCopying : Data → Task → Type 0
-IsCopying d (read_of subset clip ranges) =
-    (get (codes "target") d ≡ None) × HasBox d (codes "subset") subset × HasFlag d (codes "clip") clip × HasRanges d ranges
-IsCopying d task = (m : Data) × (get (codes "target") d ≡ Some m) × IsTaskTo d m task
+-- ---- which members there are
+
+-- each member of the object is one of these, or the first that is none
+abbrev pub known_in : (UnknownMember → RunFault) → (known : List (List ℕ)) → Data → Result (Unit {0}) RunFault → Type 0
+known_in by known d (Ok _) = HasOnly known d
+known_in by known d (Err fault) = (member : UnknownMember) × (fault ≡ by member) × IsFirstUnknown known d member
+
+-- the document breaks no rule, or the first that it breaks
+abbrev pub fits_in : Data → Result (Unit {0}) RunFault → Type 0
+fits_in d (Ok _) = Fit d
+fits_in d (Err (fault.Misfit rule)) = IsFirst (λ rule. IsTrue (is_broken d rule)) rules (rule_of rule)
+fits_in d (Err _) = ⊥
+
+abbrev pub checked_in : Data → Result (Unit {0}) RunFault → Type 0
+checked_in d =
+    then (known_in fault.Unknown known_members d) (λ _.
+    then (told of_document (members_in d)) (λ _.
+    fits_in d))
+
+-- ---- a target
+
+-- it is an object
+abbrev pub object_of : Data → Result (Unit {0}) DocumentFault → Type 0
+object_of target (Ok _) = IsSome (as_object target)
+object_of target (Err (WrongValue by)) = (by.now ≡ codes "target") × (as_object target ≡ None)
+object_of target (Err _) = ⊥
+
+-- it says the same as the array in this member, if both say something; else this is the fault
+abbrev pub agree_in : RunFault → (field : List ℕ) → (d target : Data) → Result (Unit {0}) RunFault → Type 0
+agree_in other field d target (Ok _) = Agree field d target
+agree_in other field d target (Err fault) = (fault ≡ other) × Differ field d target
+
+-- it has no unknown member, and is of the array's data type
+abbrev pub of_type : (d target : Data) → Result (Unit {0}) RunFault → Type 0
+of_type d target =
+    then (known_in fault.UnknownOfTarget zarr_json_members target) (λ _. agree_in fault.OtherDataType (codes "data_type") d target)
+
+-- and of its shape: it is the same array
+abbrev pub of_array : (d target : Data) → Result (Unit {0}) RunFault → Type 0
+of_array d target =
+    then (known_in fault.UnknownOfTarget zarr_json_members target) (λ _.
+    then (agree_in fault.OtherShape (codes "shape") d target) (λ _.
+    agree_in fault.OtherDataType (codes "data_type") d target))
+
+-- how it is stored
+abbrev pub target_stored_in : Data → Result Stored DocumentFault → Type 0
+target_stored_in = stored_in (codes "target.chunk_grid") (codes "target.chunk_key_encoding")
+
+-- ---- what is asked for
+
+-- a rechunking in an order: by the source, or in that of the target, and then into chunks of a box or into all
+abbrev pub rechunking_by : Data → Stored → Order → Result Task RunFault → Type 0
+rechunking_by d stored Target = then (box_in (codes "chunks") d) (λ chunks. gives (rechunk_to stored chunks))
+rechunking_by d stored Source = gives (rechunk_by_source stored)
+
+-- one of which a worker holds at most so many elements, or one in an order
+abbrev pub rechunking_within : Data → Stored → (most : Option ℕ) → Result Task RunFault → Type 0
+rechunking_within d stored (Some most) =
+    then (told of_document (optional_in stage_of (codes "stage") d)) (λ stage. gives (rechunk_within stored most stage))
+rechunking_within d stored None = then (told of_document (line_order_in d)) (rechunking_by d stored)
+
+-- a rechunking to this target
+abbrev pub rechunking_in : (d target : Data) → Result Task RunFault → Type 0
+rechunking_in d target =
+    then (of_array d target) (λ _.
+    then (told of_document (target_stored_in target)) (λ stored.
+    then (told of_document (optional_in size_of (codes "max_elements") d)) (rechunking_within d stored)))
+
+-- the copy of a region to this target
+abbrev pub region_in : (d target subset : Data) → Result Task RunFault → Type 0
+region_in d target subset =
+    then (of_type d target) (λ _.
+    then (told of_document (shape_in (codes "target.shape") target)) (λ shape.
+    then (told of_document (target_stored_in target)) (λ stored.
+    then (box_of (codes "subset") subset) (λ region.
+    then (told of_document (optional_in (list_of size_of) (codes "at") d)) (λ at.
+    gives (copy_to shape stored region at))))))
+
+-- What is copied: without a target, what is read; with one, which is an object, a region, where `subset` is there, or else a rechunking.
+abbrev pub copying_in : Data → (target : Option Data) → Result Task RunFault → Type 0
+copying_in d None =
+    then (box_in (codes "subset") d) (λ subset.
+    then (told of_document (flag_in (codes "clip") d)) (λ clip.
+    then (told of_document (ranges_in d)) (λ ranges.
+    gives (read_of subset clip ranges))))
+copying_in d (Some target) =
+    then (told of_document (object_of target)) (λ _.
+    optional (rechunking_in d target) (region_in d target) (get (codes "subset") d))
 
 -- a resize, where there is `resize`, the array's new shape; and else what is copied
-abbrev pub IsTask : Data → Task → Type 0
-IsTask d (resize_to shape keep) = HasNumbers d (codes "resize") (Some shape) × HasFlag d (codes "keep") keep
-IsTask d task = (get (codes "resize") d ≡ None) × IsCopying d task
+abbrev pub task_by : Data → (target : Option Data) → (resize : Option (List ℕ)) → Result Task RunFault → Type 0
+task_by d target (Some shape) = then (told of_document (flag_in (codes "keep") d)) (λ keep. gives (resize_to shape keep))
+task_by d target None = copying_in d target
+
+abbrev pub task_in : Data → (target : Option Data) → Result Task RunFault → Type 0
+task_in d target = then (told of_document (optional_in (list_of size_of) (codes "resize") d)) (task_by d target)
+
+-- ---- the document
+
+-- the document that an object stands for, or its first fault
+abbrev pub form_in : Data → Result Document RunFault → Type 0
+form_in d =
+    then (checked_in d) (λ _.
+    then (told of_document (shape_in (codes "shape") d)) (λ shape.
+    then (told of_document (wanted_in d)) (λ wanted.
+    then (told of_document (flag_in (codes "keys") d)) (λ keys.
+    then (told of_document (stored_in (codes "chunk_grid") (codes "chunk_key_encoding") d)) (λ stored.
+    then (task_in d (get (codes "target") d)) (λ task.
+    gives (record { shape = shape; wanted = wanted; keys = keys; stored = stored; task = task })))))))
+
+-- the document that an input is the text of, or its first fault
+abbrev pub document_in : (input : List ℕ) → Result Document RunFault → Type 0
+document_in input = then (told of_document (object_in input)) form_in
 
 -- the lines of a rechunking in the order of the target, or of the copy of a region, are asked for
 abbrev pub AsksForLinesOfCopy : Document → Type 0
 AsksForLinesOfCopy document = ((share : Share) × (document.wanted ≡ lines_wanted share))
     × (((stored : Stored) × (chunks : Option Box) × (document.task ≡ rechunk_to stored chunks))
     ⊎ ((shape : List ℕ) × (stored : Stored) × (region : Box) × (at : Option (List ℕ)) × (document.task ≡ copy_to shape stored region at)))
-
--- the document that a tree stands for
-pub record IsDocument (d : Data) (document : Document) : Type 0 where
-  pub known : HasOnly known_members d
-  pub fitting : Fit d
-  pub shape : shape_in d ≡ Some document.shape
-  pub wanted : HasWanted d document.wanted
-  pub keys : HasFlag d (codes "keys") document.keys
-  pub stored : HasStored d document.stored
-  pub task : IsTask d document.task

@@ -1,7 +1,7 @@
 -- Keys behind a document, a line each, and what they leave of a plan.
 -- Source: the form of the input and of the lines is this program's own.
 use Rattle.std.specs.Prelude.{◌≡◌, ◌≢◌, ◌↔◌, ◌⊎◌, ◌≤◌, ◌<◌, ◌^◌, ◌==◌, ◌&&◌, ◌+◌, ℕ, suc, pred, take, Bool, true, IsTrue, if◌then◌else◌, List, [], ◌∷◌, ◌++◌, Contains}
-use Rattle.std.specs.Prelude.{length, codes, Some}
+use Rattle.std.specs.Prelude.{length, codes, Some, Ok}
 use Rattle.std.specs.List.{slice_get}
 use Rattle.std.specs.Io.BufRead.{drop_through, take_through}
 use Rattle.std.specs.Str.{IsUtf8}
@@ -15,7 +15,7 @@ use Rattle.zarrs_chunk_plan.specs.Rechunking.{Group}
 use Rattle.zarrs_chunk_plan.specs.Shares.{before_share, share_of}
 use Rattle.zarrs_chunk_plan.specs.StoredChunks.{IsListed, IsOfArray}
 use Rattle.zarrs_chunk_plan.specs.declared.shares.share.Share.{Share}
-use Rattle.programs.specs.chunkplan.Document.{HasFlag}
+use Rattle.programs.specs.chunkplan.Document.{flag_in}
 use Rattle.programs.specs.chunkplan.Line.{group_line, line_of, lines_from}
 use Rattle.programs.specs.declared.chunkplan.line.Order.TheVariants.{Target}
 use Rattle.programs.specs.declared.chunkplan.run_fault.RunFault.{RunFault}
@@ -32,7 +32,7 @@ behind_first = drop_through 10
 
 -- the first line is a text of JSON in which `keys` is true
 abbrev pub HasKeysBehind : List ℕ → Type 0
-HasKeysBehind line = (tree : Data) × IsJsonOf line tree × HasFlag tree (codes "keys") true
+HasKeysBehind line = (tree : Data) × IsJsonOf line tree × flag_in (codes "keys") tree (Ok true)
 
 -- the bytes before the first line feed
 abbrev pub unended : List ℕ → List ℕ

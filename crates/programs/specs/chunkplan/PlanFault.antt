@@ -1,10 +1,8 @@
 -- The first fault of an input that has no plan.
-use Rattle.std.specs.Prelude.{◌≡◌, ◌≢◌, ◌⊎◌, ℕ, Bool, true, false, List, length, Option, None, Some, unwrap_or}
-use Rattle.serde_json.specs.Data.{Data}
+use Rattle.std.specs.Prelude.{◌≡◌, ◌≢◌, ◌⊎◌, ℕ, Bool, true, false, List, length, Option, None, Some, Ok, Err, unwrap_or}
 use Rattle.zarrs_chunk_base.specs.ArraySubset.{Box, IsEmptyBox, lasts}
 use Rattle.zarrs_chunk_base.specs.Dimension.{Dimension, array_sizes}
 use Rattle.zarrs_chunk_base.specs.Grid.{Grid as ChunkGrid}
-use Rattle.zarrs_chunk_base.specs.Json.{IsJsonOf}
 use Rattle.zarrs_chunk_base.specs.Refusal.{TellsLengths}
 use Rattle.zarrs_chunk_keys.specs.ChunkKey.{Encoding as KeyEncoding}
 use Rattle.zarrs_chunks.specs.GridKinds.{IsGridFault}
@@ -15,9 +13,8 @@ use Rattle.zarrs_chunk_plan.specs.Stages.{FindsShape, IsBoundFault, IsStagesFaul
 use Rattle.zarrs_chunk_plan.specs.declared.copy.copies_error.CopiesError.TheVariants.{Chunks}
 use Rattle.zarrs_chunk_plan.specs.declared.copy.region_error.RegionError.{RegionError}
 use Rattle.documents.specs.Stored.{IsCreateFault, IsStored, Stored}
-use Rattle.programs.specs.chunkplan.Document.{Document, IsDocument, RangesWanted, copy_to, read_of, rechunk_by_source, rechunk_to}
+use Rattle.programs.specs.chunkplan.Document.{Document, document_in, RangesWanted, copy_to, read_of, rechunk_by_source, rechunk_to}
 use Rattle.programs.specs.chunkplan.Document.{Wanted, counts_wanted, lines_wanted, rechunk_within, resize_to}
-use Rattle.programs.specs.chunkplan.DocumentFault.{IsInputFault}
 use Rattle.programs.specs.chunkplan.Keys.{HasKeysBehind, IsKeysFault, behind_first, closed_lines, first_line}
 use Rattle.programs.specs.chunkplan.Planned.{ArePlanned, HoldsMore, begins_at}
 use Rattle.programs.specs.chunkplan.RunFault.{of_create, of_region as of_region_error}
@@ -124,17 +121,17 @@ pub data IsFaultBeside (document : Document) (bytes : List ℕ) (fault : RunFaul
 -- The first fault of an input that is no document, and whose first line has no keys after it. If the input is no JSON, but its first lines are a document
 -- with keys after it, the fault is that this isn't one line.
 pub data IsWholeFault (input : List ℕ) (fault : RunFault) : Type 0 where
-  of_input : IsInputFault input fault → (fault ≡ NotJson → ¬ HasKeysBehind (closed_lines input)) → IsWholeFault input fault
-  several_lines : IsInputFault input NotJson → HasKeysBehind (closed_lines input) → fault ≡ KeysOfLongDocument → IsWholeFault input fault
+  of_input : document_in input (Err fault) → (fault ≡ NotJson → ¬ HasKeysBehind (closed_lines input)) → IsWholeFault input fault
+  several_lines : document_in input (Err NotJson) → HasKeysBehind (closed_lines input) → fault ≡ KeysOfLongDocument → IsWholeFault input fault
 
 -- The first fault of an input that has no plan: it is no document; or `keys` is true in a document that is more than the first line; or the document
 -- has no plan. Where keys stand behind it: the first line is no document; or of it and the keys.
 pub data IsFirstFault (input : List ℕ) (fault : RunFault) : Type 0 where
   no_document : (¬ HasKeysBehind (first_line input)) → IsWholeFault input fault → IsFirstFault input fault
-  long_document : (tree : Data) (document : Document) → (¬ HasKeysBehind (first_line input)) → IsJsonOf input tree → IsDocument tree document
+  long_document : (document : Document) → (¬ HasKeysBehind (first_line input)) → document_in input (Ok document)
       → document.keys ≡ true → fault ≡ KeysOfLongDocument → IsFirstFault input fault
-  no_plan : (tree : Data) (document : Document) → (¬ HasKeysBehind (first_line input)) → IsJsonOf input tree → IsDocument tree document
+  no_plan : (document : Document) → (¬ HasKeysBehind (first_line input)) → document_in input (Ok document)
       → document.keys ≡ false → IsPlanFault document fault → IsFirstFault input fault
-  no_first_document : HasKeysBehind (first_line input) → IsInputFault (first_line input) fault → IsFirstFault input fault
-  beside_keys : (tree : Data) (document : Document) → HasKeysBehind (first_line input) → IsJsonOf (first_line input) tree
-      → IsDocument tree document → IsFaultBeside document (behind_first input) fault → IsFirstFault input fault
+  no_first_document : HasKeysBehind (first_line input) → document_in (first_line input) (Err fault) → IsFirstFault input fault
+  beside_keys : (document : Document) → HasKeysBehind (first_line input) → document_in (first_line input) (Ok document)
+      → IsFaultBeside document (behind_first input) fault → IsFirstFault input fault

@@ -1,10 +1,8 @@
 -- What the program writes for a document.
-use Rattle.std.specs.Prelude.{◌≡◌, ◌↔◌, ℕ, Bool, true, false, IsTrue, List, [], length, MatchOption, Option, None, Some, replicate, unwrap_or}
-use Rattle.serde_json.specs.Data.{Data}
+use Rattle.std.specs.Prelude.{◌≡◌, ◌↔◌, ℕ, Bool, true, false, IsTrue, List, [], length, MatchOption, Option, None, Some, Ok, replicate, unwrap_or}
 use Rattle.zarrs_chunk_base.specs.ArraySubset.{Box, IsBox, IsEmptyBox, IsInside}
 use Rattle.zarrs_chunk_base.specs.Dimension.{Dimension, array_sizes}
 use Rattle.zarrs_chunk_base.specs.Grid.{Grid}
-use Rattle.zarrs_chunk_base.specs.Json.{IsJsonOf}
 use Rattle.zarrs_chunk_base.specs.declared.chunk_key_separator.ChunkKeySeparator.TheVariants.{Slash}
 use Rattle.zarrs_chunk_keys.specs.ChunkKey.{Encoding, IsKey, default_keys}
 use Rattle.zarrs_chunks.specs.GridKinds.{IsGrid, grid_kind, regular}
@@ -21,7 +19,7 @@ use Rattle.zarrs_chunk_plan.specs.declared.resize.plan.ChunkChange.{ChunkChange}
 use Rattle.zarrs_chunk_plan.specs.declared.shares.share.Share.{Share}
 use Rattle.documents.specs.Stored.{IsStored, Stored}
 use Rattle.programs.specs.chunkplan.CountsLine.{IsCountsLine, IsStagesLine}
-use Rattle.programs.specs.chunkplan.Document.{Document, IsDocument, RangesWanted, Wanted, copy_to, counts_wanted, lines_wanted, read_of}
+use Rattle.programs.specs.chunkplan.Document.{Document, document_in, RangesWanted, Wanted, copy_to, counts_wanted, lines_wanted, read_of}
 use Rattle.programs.specs.chunkplan.Document.{rechunk_by_source, rechunk_to, rechunk_within, resize_to}
 use Rattle.programs.specs.chunkplan.Keys.{AreKeys, HasKeysBehind, IsMissingText, behind_first, first_line}
 use Rattle.programs.specs.chunkplan.Line.{read_lines, rechunking_lines, resize_lines}
@@ -201,7 +199,7 @@ pub record IsPlannedBeside (document : Document) (keys : List (List ℕ)) (text 
 
 -- The text that the program writes for an input: that is a document; or its first line is one, in which `keys` is true, and keys stand behind it.
 pub data IsPlanOf (input text : List ℕ) : Type 0 where
-  of_document : (tree : Data) (document : Document) → (¬ HasKeysBehind (first_line input)) → IsJsonOf input tree → IsDocument tree document
+  of_document : (document : Document) → (¬ HasKeysBehind (first_line input)) → document_in input (Ok document)
       → document.keys ≡ false → IsPlanned document text → IsPlanOf input text
-  of_keys : (tree : Data) (document : Document) (keys : List (List ℕ)) → HasKeysBehind (first_line input) → IsJsonOf (first_line input) tree
-      → IsDocument tree document → AreKeys (behind_first input) keys → IsPlannedBeside document keys text → IsPlanOf input text
+  of_keys : (document : Document) (keys : List (List ℕ)) → HasKeysBehind (first_line input) → document_in (first_line input) (Ok document)
+      → AreKeys (behind_first input) keys → IsPlannedBeside document keys text → IsPlanOf input text

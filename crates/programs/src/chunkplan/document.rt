@@ -1,29 +1,27 @@
 //! The program's document.
-ghost use Rattle.std.specs.Prelude.{◌≡◌, ◌⊎◌, MatchResult, None, Some, codes};
-ghost use Rattle.serde_json.specs.Data.{Data};
-ghost use Rattle.serde_json.specs.Find.{get};
+ghost use Rattle.std.specs.Prelude.{None, option_map};
 ghost use Rattle.serde_json.specs.View.{view};
-ghost use Rattle.zarrs_chunk_base.specs.Json.{IsJsonOf};
-ghost use Rattle.documents.specs.Document.{HasStored};
+ghost use Rattle.documents.specs.Reading.{IsRead, IsReadOr};
 ghost use Rattle.documents.specs.Stored.{stored_of};
-ghost use Rattle.programs.specs.chunkplan.Document.{HasWanted, IsCopying, IsDocument, IsOfArray, IsOfType, IsTask, IsTaskTo};
-ghost use Rattle.programs.specs.chunkplan.Document.{document_of, task_of, wanted_of};
-ghost use Rattle.programs.specs.chunkplan.DocumentFault.{HasWantedFault, IsCopyingFault, IsFormFault, IsInputFault, IsTargetMisfit};
-ghost use Rattle.programs.specs.chunkplan.DocumentFault.{IsTargetStoredFault, IsTaskFault, IsTaskToFault, IsTypeMisfit, IsUnknownFault};
-ghost use Rattle.programs.specs.chunkplan.Known.{HasOnly, IsFirstUnknown, known_members, zarr_json_members};
-ghost use Rattle.programs.specs.declared.chunkplan.run_fault.RunFault.TheVariants.{Memory, UnknownOfTarget};
 ghost use Rattle.documents.specs.declared.document_fault.DocumentFault.TheVariants.{Memory as DocumentMemory};
+ghost use Rattle.programs.specs.chunkplan.Document.{checked_in, copying_in, document_in, document_of};
+ghost use Rattle.programs.specs.chunkplan.Document.{form_in, known_in, object_of, of_array, of_type};
+ghost use Rattle.programs.specs.chunkplan.Document.{rechunking_in, rechunking_within, region_in, target_stored_in, task_in, task_of};
+ghost use Rattle.programs.specs.chunkplan.Document.{wanted_in, wanted_of};
+ghost use Rattle.programs.specs.chunkplan.Known.{known_members, zarr_json_members};
+ghost use Rattle.programs.specs.declared.chunkplan.run_fault.RunFault.TheVariants.{Memory, Unknown, UnknownOfTarget};
 
 use crate::chunkplan::RunFault;
-use crate::chunkplan::known_members::{DOCUMENT, UnknownMember, ZARR_JSON, agree, check_known};
+use crate::chunkplan::known_members::{DOCUMENT, ZARR_JSON, agree, check_known};
 use crate::chunkplan::line::Order;
 use crate::chunkplan::member_rules::check_rules;
 use crate::chunkplan::members::{
-    member_bound, member_box, member_flag, member_numbers, member_order, member_share,
-    member_stage, read_box,
+    member_box, member_flag, member_numbers, member_order, member_share, member_stage, read_box,
 };
 use crate::chunkplan::ranges::{RangesAsked, member_ranges};
-use documents::{DocumentFault, Stored, read_object, read_shape, required_member, take_stored};
+use documents::{
+    DocumentFault, Stored, check_members, optional_member, read_object, read_shape, take_stored,
+};
 use serde_json::Value;
 use std::alloc::Global;
 use zarrs_chunk_base::{ArraySubset, Refusal, take_member};
@@ -99,30 +97,23 @@ pub(crate) struct Document {
 /// of `target`, `max_elements`, `stage`, `order` and `chunks`, or of `target`, `subset` and `at`; before its own members, the target has one that
 /// isn't known, or is of another array, or for a region of another data type. Or out of memory.
 pub(crate) fn parse(alloc: Global, input: &[u8]) -> Result<Document, RunFault>
-    ensures { MatchResult result
-        (λ document. (tree : Data) × IsJsonOf input.now tree
-        × IsDocument tree (document_of document))
-        (λ fault. (fault ≡ Memory) ⊎ IsInputFault input.now fault) }
+    ensures { IsReadOr Memory document_of (document_in input.now) result }
 {
     let tree = read_object(alloc, input)?;
     document_from(alloc, tree)
 }
 
-/// The document that a tree stands for.
+/// The document that an object stands for.
 fn document_from(alloc: Global, mut tree: Value) -> Result<Document, RunFault>
-    ensures { MatchResult result (λ document. IsDocument (view tree) (document_of document))
-        (λ fault. (fault ≡ Memory) ⊎ IsFormFault (view tree) fault) }
+    ensures { IsReadOr Memory document_of (form_in (view tree)) result }
 {
     check_document(alloc, &tree)?;
-    required_member(&tree, "shape", "shape")?;
-    required_member(&tree, "chunk_grid", "chunk_grid")?;
-    required_member(&tree, "chunk_key_encoding", "chunk_key_encoding")?;
-    check_rules(&tree)?;
     let shape = read_shape(alloc, &tree, "shape")?;
     let wanted = wanted_from(alloc, &tree)?;
     let keys = member_flag(&tree, "keys")?;
     let stored = take_stored(alloc, &mut tree, "chunk_grid", "chunk_key_encoding")?;
-    let task = task_from(alloc, tree)?;
+    let target = take_member(&mut tree, "target");
+    let task = task_from(alloc, &tree, target)?;
     Ok(Document {
         shape,
         wanted,
@@ -132,10 +123,19 @@ fn document_from(alloc: Global, mut tree: Value) -> Result<Document, RunFault>
     })
 }
 
-/// Refuses a member that isn't known.
+/// Refuses a member that isn't known, then that one is missing, then one that doesn't go with the others.
 fn check_document(alloc: Global, tree: &Value) -> Result<(), RunFault>
-    ensures { MatchResult result (λ _. HasOnly known_members (view tree.now))
-        (λ fault. (fault ≡ Memory) ⊎ IsUnknownFault (view tree.now) fault) }
+    ensures { IsReadOr Memory (λ done. done) (checked_in (view tree.now)) result }
+{
+    check_known_document(alloc, tree)?;
+    check_members(tree)?;
+    check_rules(tree)
+}
+
+/// Refuses a member that isn't known.
+fn check_known_document(alloc: Global, tree: &Value) -> Result<(), RunFault>
+    ensures { IsReadOr Memory (λ done. done)
+        (known_in Unknown known_members (view tree.now)) result }
 {
     match check_known(alloc, tree, &DOCUMENT) {
         Ok(()) => Ok(()),
@@ -145,9 +145,8 @@ fn check_document(alloc: Global, tree: &Value) -> Result<(), RunFault>
 }
 
 /// What a document wants of its plan: its counts, where `counts` is true, and else the lines of a share.
-fn wanted_from(alloc: Global, tree: &Value) -> Result<Wanted, RunFault>
-    ensures { MatchResult result (λ wanted. HasWanted (view tree.now) (wanted_of wanted))
-        (λ fault. (fault ≡ Memory) ⊎ HasWantedFault (view tree.now) fault) }
+fn wanted_from(alloc: Global, tree: &Value) -> Result<Wanted, DocumentFault>
+    ensures { IsReadOr DocumentMemory wanted_of (wanted_in (view tree.now)) result }
 {
     if member_flag(tree, "counts")? {
         return Ok(Wanted::Counts);
@@ -157,8 +156,7 @@ fn wanted_from(alloc: Global, tree: &Value) -> Result<Wanted, RunFault>
 
 /// Refuses a target that has a member that isn't known, or another shape or data type than the array.
 fn check_target(alloc: Global, tree: &Value, target: &Value) -> Result<(), RunFault>
-    ensures { MatchResult result (λ _. IsOfArray (view tree.now) (view target.now))
-        (λ fault. (fault ≡ Memory) ⊎ IsTargetMisfit (view tree.now) (view target.now) fault) }
+    ensures { IsReadOr Memory (λ done. done) (of_array (view tree.now) (view target.now)) result }
 {
     check_known_target(alloc, target)?;
     if !agree(alloc, tree, target, "shape")? {
@@ -172,8 +170,7 @@ fn check_target(alloc: Global, tree: &Value, target: &Value) -> Result<(), RunFa
 
 /// Refuses a target that has a member that isn't known, or another data type than the array.
 fn check_type(alloc: Global, tree: &Value, target: &Value) -> Result<(), RunFault>
-    ensures { MatchResult result (λ _. IsOfType (view tree.now) (view target.now))
-        (λ fault. (fault ≡ Memory) ⊎ IsTypeMisfit (view tree.now) (view target.now) fault) }
+    ensures { IsReadOr Memory (λ done. done) (of_type (view tree.now) (view target.now)) result }
 {
     check_known_target(alloc, target)?;
     if !agree(alloc, tree, target, "data_type")? {
@@ -184,9 +181,8 @@ fn check_type(alloc: Global, tree: &Value, target: &Value) -> Result<(), RunFaul
 
 /// Refuses a target that has a member that isn't known.
 fn check_known_target(alloc: Global, target: &Value) -> Result<(), RunFault>
-    ensures { MatchResult result (λ _. HasOnly zarr_json_members (view target.now))
-        (λ fault. (fault ≡ Memory) ⊎ ((told : UnknownMember) × (fault ≡ UnknownOfTarget told)
-        × IsFirstUnknown zarr_json_members (view target.now) told)) }
+    ensures { IsReadOr Memory (λ done. done)
+        (known_in UnknownOfTarget zarr_json_members (view target.now)) result }
 {
     match check_known(alloc, target, &DOCUMENT[..ZARR_JSON]) {
         Ok(()) => Ok(()),
@@ -195,70 +191,77 @@ fn check_known_target(alloc: Global, target: &Value) -> Result<(), RunFault>
     }
 }
 
-/// What a tree asks for.
-fn task_from(alloc: Global, tree: Value) -> Result<Task, RunFault>
-    ensures { MatchResult result (λ task. IsTask (view tree) (task_of task))
-        (λ fault. (fault ≡ Memory) ⊎ IsTaskFault (view tree) fault) }
+/// What a tree asks for, of which the target was taken out.
+fn task_from(alloc: Global, tree: &Value, target: Option<Value>) -> Result<Task, RunFault>
+    ensures { IsReadOr Memory task_of
+        (task_in (view tree.now) (option_map view target)) result }
 {
-    match member_numbers(alloc, &tree, "resize")? {
+    match member_numbers(alloc, tree, "resize")? {
         Some(shape) => {
-            let keep = member_flag(&tree, "keep")?;
+            let keep = member_flag(tree, "keep")?;
             Ok(Task::Resize { shape, keep })
         }
-        None => copying_from(alloc, tree),
+        None => copying_from(alloc, tree, target),
     }
 }
 
 /// What is copied, as a tree asks for it: a read, a rechunking or a region.
-fn copying_from(alloc: Global, mut tree: Value) -> Result<Task, RunFault>
-    ensures { MatchResult result (λ task. IsCopying (view tree) (task_of task))
-        (λ fault. (fault ≡ Memory) ⊎ IsCopyingFault (view tree) fault) }
+fn copying_from(alloc: Global, tree: &Value, target: Option<Value>) -> Result<Task, RunFault>
+    ensures { IsReadOr Memory task_of
+        (copying_in (view tree.now) (option_map view target)) result }
 {
-    let Some(target) = take_member(&mut tree, "target") else {
-        let subset = member_box(alloc, &tree, "subset")?;
-        let clip = member_flag(&tree, "clip")?;
-        let ranges = member_ranges(alloc, &tree)?;
+    let Some(target) = target else {
+        let subset = member_box(alloc, tree, "subset")?;
+        let clip = member_flag(tree, "clip")?;
+        let ranges = member_ranges(alloc, tree)?;
         return Ok(Task::Read {
             subset,
             clip,
             ranges,
         });
     };
-    if !target.is_object() {
-        return Err(RunFault::WrongValue("target"));
-    }
-    task_to(alloc, &tree, target)
-}
-
-/// What a tree asks for with this target.
-fn task_to(alloc: Global, tree: &Value, target: Value) -> Result<Task, RunFault>
-    ensures { MatchResult result
-        (λ task. IsTaskTo (view tree.now) (view target) (task_of task))
-        (λ fault. (fault ≡ Memory) ⊎ IsTaskToFault (view tree.now) (view target) fault) }
-{
+    check_object(&target)?;
     match tree.get("subset") {
         Some(subset) => region_to(alloc, tree, target, subset),
         None => rechunking_to(alloc, tree, target),
     }
 }
 
+/// Refuses a target that is no object.
+fn check_object(target: &Value) -> Result<(), DocumentFault>
+    ensures { IsRead (λ done. done) (object_of (view target.now)) result }
+{
+    if target.is_object() {
+        Ok(())
+    } else {
+        Err(DocumentFault::WrongValue("target"))
+    }
+}
+
 /// The rechunking that a tree asks for with this target.
 fn rechunking_to(alloc: Global, tree: &Value, mut target: Value) -> Result<Task, RunFault>
-    requires { get (codes "subset") (view tree.now) ≡ None }
-    ensures { MatchResult result
-        (λ task. IsTaskTo (view tree.now) (view target) (task_of task))
-        (λ fault. (fault ≡ Memory) ⊎ IsTaskToFault (view tree.now) (view target) fault) }
+    ensures { IsReadOr Memory task_of (rechunking_in (view tree.now) (view target)) result }
 {
     check_target(alloc, tree, &target)?;
     let stored = take_target(alloc, &mut target)?;
-    if let Some(most) = member_bound(alloc, tree)? {
-        let stage = member_stage(alloc, tree)?;
-        return Ok(Task::RechunkWithin {
-            target: stored,
-            most,
-            stage,
-        });
+    match optional_member(alloc, tree, "max_elements")? {
+        Some(most) => {
+            let stage = member_stage(alloc, tree)?;
+            Ok(Task::RechunkWithin {
+                target: stored,
+                most,
+                stage,
+            })
+        }
+        None => ordered(alloc, tree, stored),
     }
+}
+
+/// The rechunking that a tree asks for in an order.
+fn ordered(alloc: Global, tree: &Value, stored: Stored) -> Result<Task, RunFault>
+    ensures { IsReadOr Memory task_of
+        (rechunking_within (view tree.now) (stored_of stored) None) result }
+{
     match member_order(tree)? {
         Order::Target => Ok(Task::Rechunk(stored, member_box(alloc, tree, "chunks")?)),
         Order::Source => Ok(Task::RechunkBySource(stored)),
@@ -272,10 +275,8 @@ fn region_to(
     mut target: Value,
     subset: &Value,
 ) -> Result<Task, RunFault>
-    requires { get (codes "subset") (view tree.now) ≡ Some (view subset.now) }
-    ensures { MatchResult result
-        (λ task. IsTaskTo (view tree.now) (view target) (task_of task))
-        (λ fault. (fault ≡ Memory) ⊎ IsTaskToFault (view tree.now) (view target) fault) }
+    ensures { IsReadOr Memory task_of
+        (region_in (view tree.now) (view target) (view subset.now)) result }
 {
     check_type(alloc, tree, &target)?;
     let shape = read_shape(alloc, &target, "target.shape")?;
@@ -292,8 +293,7 @@ fn region_to(
 
 /// How a target says that it is stored, which is taken out of it.
 fn take_target(alloc: Global, target: &mut Value) -> Result<Stored, DocumentFault>
-    ensures { MatchResult result (λ stored. HasStored (view target.old) (stored_of stored))
-        (λ fault. (fault ≡ DocumentMemory) ⊎ IsTargetStoredFault (view target.old) fault) }
+    ensures { IsReadOr DocumentMemory stored_of (target_stored_in (view target.old)) result }
 {
     take_stored(
         alloc,

@@ -1,11 +1,12 @@
 //! Which members of a document go together.
-ghost use Rattle.std.specs.Prelude.{◌≡◌, IsFalse, IsTrue, MatchOption, MatchResult, is_some, map};
+ghost use Rattle.std.specs.Prelude.{◌≡◌, IsFalse, IsTrue, MatchOption, is_some, map};
 ghost use Rattle.std.specs.List.{AllByRecursion};
 ghost use Rattle.serde_json.specs.Find.{get};
 ghost use Rattle.serde_json.specs.View.{view};
 ghost use Rattle.zarrs_chunk_base.specs.First.{IsFirst};
-ghost use Rattle.programs.specs.chunkplan.DocumentFault.{IsMisfit};
-ghost use Rattle.programs.specs.chunkplan.MemberRules.{Fit, is_broken, rule_of};
+ghost use Rattle.documents.specs.Reading.{IsRead};
+ghost use Rattle.programs.specs.chunkplan.Document.{fits_in};
+ghost use Rattle.programs.specs.chunkplan.MemberRules.{is_broken, rule_of};
 
 use crate::chunkplan::RunFault;
 use crate::chunkplan::member_rules::MemberRule::{Excludes, Needs};
@@ -67,7 +68,7 @@ const RULES: [MemberRule; 38] = [
 
 /// Refuses a document that breaks a rule, by the first one.
 pub(crate) fn check_rules(tree: &Value) -> Result<(), RunFault>
-    ensures { MatchResult result (λ _. Fit (view tree.now)) (IsMisfit (view tree.now)) }
+    ensures { IsRead (λ done. done) (fits_in (view tree.now)) result }
 {
     match first_broken(tree, &RULES) {
         Some(rule) => Err(RunFault::Misfit(rule)),

@@ -1,37 +1,38 @@
 //! What members of a document say, each in the form in which a document writes it.
-ghost use Rattle.std.specs.Prelude.{◌≡◌, ◌⊎◌, MatchResult, codes, option_map};
+ghost use Rattle.std.specs.Prelude.{codes, option_map};
 ghost use Rattle.serde_json.specs.View.{view};
-ghost use Rattle.zarrs_chunk_base.specs.Json.{size_of};
-ghost use Rattle.programs.specs.chunkplan.Document.{HasBox, HasFlag, HasIfAny, HasNumbers, HasOrder, HasShare, IsBoxIn, stage_in};
-ghost use Rattle.programs.specs.chunkplan.DocumentFault.{HasBoxFault, HasFlagFault, HasFormFault, HasNumbersFault, HasOrderFault, HasShareFault, IsBoxFormFault};
+ghost use Rattle.zarrs_chunk_base.specs.Json.{list_of, size_of};
+ghost use Rattle.documents.specs.Document.{optional_in};
+ghost use Rattle.documents.specs.Reading.{IsRead, IsReadOr};
+ghost use Rattle.documents.specs.declared.document_fault.DocumentFault.TheVariants.{Memory as DocumentMemory};
+ghost use Rattle.programs.specs.chunkplan.Document.{box_in, box_of, flag_in, line_order_in, share_in, stage_of};
 ghost use Rattle.programs.specs.declared.chunkplan.run_fault.RunFault.TheVariants.{Memory};
 
 use crate::chunkplan::RunFault;
 use crate::chunkplan::document::Stage;
 use crate::chunkplan::line::Order;
+use documents::{DocumentFault, optional_member};
 use serde_json::Value;
 use std::alloc::Global;
 use zarrs_chunk_base::{ArraySubset, TreeForm};
 use zarrs_chunk_plan::Share;
 
 /// What a flag of a document says; false where it is absent.
-pub(crate) fn member_flag(tree: &Value, field: &'static str) -> Result<bool, RunFault>
-    ensures { MatchResult result (HasFlag (view tree.now) field.now)
-        (HasFlagFault (view tree.now) field.now) }
+pub(crate) fn member_flag(tree: &Value, field: &'static str) -> Result<bool, DocumentFault>
+    ensures { IsRead (λ flag. flag) (flag_in field.now (view tree.now)) result }
 {
     let Some(member) = tree.get(field) else {
         return Ok(false);
     };
     match member.as_bool() {
         Some(flag) => Ok(flag),
-        None => Err(RunFault::WrongValue(field)),
+        None => Err(DocumentFault::WrongValue(field)),
     }
 }
 
 /// The order that a document asks for: the target's, if it says nothing.
-pub(crate) fn member_order(tree: &Value) -> Result<Order, RunFault>
-    ensures { MatchResult result (HasOrder (view tree.now))
-        (HasOrderFault (view tree.now)) }
+pub(crate) fn member_order(tree: &Value) -> Result<Order, DocumentFault>
+    ensures { IsRead (λ order. order) (line_order_in (view tree.now)) result }
 {
     let Some(member) = tree.get("order") else {
         return Ok(Order::Target);
@@ -39,47 +40,30 @@ pub(crate) fn member_order(tree: &Value) -> Result<Order, RunFault>
     match member.as_str() {
         Some("target") => Ok(Order::Target),
         Some("source") => Ok(Order::Source),
-        _ => Err(RunFault::WrongValue("order")),
+        _ => Err(DocumentFault::WrongValue("order")),
     }
 }
 
 /// The share that a document asks for: the whole plan, if it says nothing.
-pub(crate) fn member_share(alloc: Global, tree: &Value) -> Result<Share, RunFault>
-    ensures { MatchResult result (HasShare (view tree.now))
-        (λ fault. (fault ≡ Memory) ⊎ HasShareFault (view tree.now) fault) }
+pub(crate) fn member_share(alloc: Global, tree: &Value) -> Result<Share, DocumentFault>
+    ensures { IsReadOr DocumentMemory (λ share. share) (share_in (view tree.now)) result }
 {
     let Some(member) = tree.get("share") else {
         return Ok(Share::whole());
     };
     let Some((number, of)) = <(u64, u64)>::from_tree(alloc, member)? else {
-        return Err(RunFault::WrongValue("share"));
+        return Err(DocumentFault::WrongValue("share"));
     };
     match Share::new(number, of) {
         Some(share) => Ok(share),
-        None => Err(RunFault::WrongValue("share")),
-    }
-}
-
-/// How many elements a worker may hold, if a document says it.
-pub(crate) fn member_bound(alloc: Global, tree: &Value) -> Result<Option<u64>, RunFault>
-    ensures { MatchResult result (HasIfAny size_of (view tree.now) (codes "max_elements"))
-        (λ fault. (fault ≡ Memory)
-        ⊎ HasFormFault size_of (view tree.now) (codes "max_elements") fault) }
-{
-    let Some(member) = tree.get("max_elements") else {
-        return Ok(None);
-    };
-    match u64::from_tree(alloc, member)? {
-        Some(most) => Ok(Some(most)),
-        None => Err(RunFault::WrongValue("max_elements")),
+        None => Err(DocumentFault::WrongValue("share")),
     }
 }
 
 /// The stage that a document asks for, if it asks for one.
-pub(crate) fn member_stage(alloc: Global, tree: &Value) -> Result<Option<Stage>, RunFault>
-    ensures { MatchResult result (HasIfAny stage_in (view tree.now) (codes "stage"))
-        (λ fault. (fault ≡ Memory)
-        ⊎ HasFormFault stage_in (view tree.now) (codes "stage") fault) }
+pub(crate) fn member_stage(alloc: Global, tree: &Value) -> Result<Option<Stage>, DocumentFault>
+    ensures { IsReadOr DocumentMemory (λ stage. stage)
+        (optional_in stage_of (codes "stage") (view tree.now)) result }
 {
     let Some(member) = tree.get("stage") else {
         return Ok(None);
@@ -87,7 +71,7 @@ pub(crate) fn member_stage(alloc: Global, tree: &Value) -> Result<Option<Stage>,
     match u64::from_tree(alloc, member)? {
         Some(1) => Ok(Some(Stage::First)),
         Some(2) => Ok(Some(Stage::Second)),
-        _ => Err(RunFault::WrongValue("stage")),
+        _ => Err(DocumentFault::WrongValue("stage")),
     }
 }
 
@@ -97,8 +81,7 @@ pub(crate) fn member_box(
     tree: &Value,
     field: &'static str,
 ) -> Result<Option<ArraySubset>, RunFault>
-    ensures { MatchResult result (HasBox (view tree.now) field.now)
-        (λ fault. (fault ≡ Memory) ⊎ HasBoxFault (view tree.now) field.now fault) }
+    ensures { IsReadOr Memory (λ subset. subset) (box_in field.now (view tree.now)) result }
 {
     match tree.get(field) {
         Some(member) => Ok(Some(read_box(alloc, member, field)?)),
@@ -111,17 +94,13 @@ pub(crate) fn member_numbers(
     alloc: Global,
     tree: &Value,
     field: &'static str,
-) -> Result<Option<Vec<u64>>, RunFault>
-    ensures { MatchResult result
-        (λ numbers. HasNumbers (view tree.now) field.now (option_map (λ v. v.items) numbers))
-        (λ fault. (fault ≡ Memory) ⊎ HasNumbersFault (view tree.now) field.now fault) }
+) -> Result<Option<Vec<u64>>, DocumentFault>
+    ensures { IsReadOr DocumentMemory (option_map (λ v. v.items))
+        (optional_in (list_of size_of) field.now (view tree.now)) result }
 {
-    let Some(member) = tree.get(field) else {
-        return Ok(None);
-    };
-    match Vec::from_tree(alloc, member)? {
+    match optional_member(alloc, tree, field)? {
         Some(numbers) => Ok(Some(numbers)),
-        None => Err(RunFault::WrongValue(field)),
+        None => Ok(None),
     }
 }
 
@@ -131,8 +110,7 @@ pub(crate) fn read_box(
     tree: &Value,
     field: &'static str,
 ) -> Result<ArraySubset, RunFault>
-    ensures { MatchResult result (IsBoxIn (view tree.now))
-        (λ fault. (fault ≡ Memory) ⊎ IsBoxFormFault (view tree.now) field.now fault) }
+    ensures { IsReadOr Memory (λ subset. subset) (box_of field.now (view tree.now)) result }
 {
     let Some((start, shape)) = <(Vec<u64>, Vec<u64>)>::from_tree(alloc, tree)? else {
         return Err(RunFault::WrongValue(field));

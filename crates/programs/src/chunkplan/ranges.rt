@@ -1,17 +1,17 @@
 //! The byte ranges that a document wants in the lines of a read.
-ghost use Rattle.std.specs.Prelude.{◌≡◌, ◌⊎◌, MatchResult, codes, option_map};
+ghost use Rattle.std.specs.Prelude.{codes, option_map};
 ghost use Rattle.serde_json.specs.View.{view};
 ghost use Rattle.zarrs_chunk_plan.specs.declared.bytes.ranges.MemoryOrder.TheVariants.{C};
 ghost use Rattle.zarrs_chunk_questions.specs.Order.{order_in};
-ghost use Rattle.programs.specs.chunkplan.Document.{HasOr, HasRanges, most_in, ranges_asked_of};
-ghost use Rattle.programs.specs.chunkplan.DocumentFault.{HasFormFault, HasRangesFault};
-ghost use Rattle.programs.specs.declared.chunkplan.run_fault.RunFault.TheVariants.{Memory};
+ghost use Rattle.documents.specs.Document.{in_form_or};
+ghost use Rattle.documents.specs.Reading.{IsReadOr};
+ghost use Rattle.documents.specs.declared.document_fault.DocumentFault.TheVariants.{Memory};
+ghost use Rattle.programs.specs.chunkplan.Document.{most_of, ranges_asked_of, ranges_in};
 
-use crate::chunkplan::RunFault;
+use documents::{DocumentFault, optional_member};
 use serde_json::Value;
 use std::alloc::Global;
 use std::num::NonZeroU64;
-use zarrs_chunk_base::TreeForm;
 use zarrs_chunk_plan::MemoryOrder;
 use zarrs_chunk_questions::StoredIn;
 
@@ -30,16 +30,14 @@ pub(crate) struct RangesAsked {
 }
 
 /// How a document wants byte ranges, if it does.
-pub(crate) fn member_ranges(alloc: Global, tree: &Value) -> Result<Option<RangesAsked>, RunFault>
-    ensures { MatchResult result
-        (λ asked. HasRanges (view tree.now) (option_map ranges_asked_of asked))
-        (λ fault. (fault ≡ Memory) ⊎ HasRangesFault (view tree.now) fault) }
+pub(crate) fn member_ranges(
+    alloc: Global,
+    tree: &Value,
+) -> Result<Option<RangesAsked>, DocumentFault>
+    ensures { IsReadOr Memory (option_map ranges_asked_of) (ranges_in (view tree.now)) result }
 {
-    let Some(member) = tree.get("item_size") else {
+    let Some(item_size) = optional_member(alloc, tree, "item_size")? else {
         return Ok(None);
-    };
-    let Some(item_size) = NonZeroU64::from_tree(alloc, member)? else {
-        return Err(RunFault::WrongValue("item_size"));
     };
     let order = member_memory_order(alloc, tree)?;
     let most = member_most(alloc, tree)?;
@@ -51,34 +49,25 @@ pub(crate) fn member_ranges(alloc: Global, tree: &Value) -> Result<Option<Ranges
 }
 
 /// The order in which a document says that elements are stored; `C`, where it says none.
-fn member_memory_order(alloc: Global, tree: &Value) -> Result<MemoryOrder, RunFault>
-    ensures { MatchResult result (HasOr order_in C (view tree.now) (codes "memory_order"))
-        (λ fault. (fault ≡ Memory)
-        ⊎ HasFormFault order_in (view tree.now) (codes "memory_order") fault) }
+fn member_memory_order(alloc: Global, tree: &Value) -> Result<MemoryOrder, DocumentFault>
+    ensures { IsReadOr Memory (λ order. order)
+        (in_form_or C order_in (codes "memory_order") (view tree.now)) result }
 {
-    let Some(member) = tree.get("memory_order") else {
-        return Ok(MemoryOrder::C);
-    };
-    match StoredIn::from_tree(alloc, member)? {
+    let stored: Option<StoredIn> = optional_member(alloc, tree, "memory_order")?;
+    match stored {
         Some(stored) => Ok(stored.0),
-        None => Err(RunFault::WrongValue("memory_order")),
+        None => Ok(MemoryOrder::C),
     }
 }
 
 /// Up to how many ranges a document wants to have listed; 0, where it doesn't say.
-fn member_most(alloc: Global, tree: &Value) -> Result<u64, RunFault>
-    ensures { MatchResult result (HasOr most_in 0 (view tree.now) (codes "max_ranges"))
-        (λ fault. (fault ≡ Memory)
-        ⊎ HasFormFault most_in (view tree.now) (codes "max_ranges") fault) }
+fn member_most(alloc: Global, tree: &Value) -> Result<u64, DocumentFault>
+    ensures { IsReadOr Memory (λ most. most)
+        (in_form_or 0 most_of (codes "max_ranges") (view tree.now)) result }
 {
-    let Some(member) = tree.get("max_ranges") else {
-        return Ok(0);
-    };
-    let Some(most) = u64::from_tree(alloc, member)? else {
-        return Err(RunFault::WrongValue("max_ranges"));
-    };
+    let most = optional_member(alloc, tree, "max_ranges")?.unwrap_or(0);
     if most > MOST_RANGES {
-        return Err(RunFault::WrongValue("max_ranges"));
+        return Err(DocumentFault::WrongValue("max_ranges"));
     }
     Ok(most)
 }

@@ -1,7 +1,9 @@
-use Rattle.std.proofs.Common.{◌∙◌}
+use Rattle.std.proofs.Common.{◌≡◌, ◌∙◌, ◌⊎◌, Err, subst}
 use Rattle.std.proofs.lemmas.Result.{err_from_is_err_and}
 use Rattle.streams.specs.Watched.{watched}
 use Rattle.streams.proofs.Known.{for_both}
+use Rattle.documents.specs.chunkwhere.Run.{text_of}
+use Rattle.documents.specs.declared.chunkwhere.run_fault.RunFault.TheVariants.{Memory}
 use Rattle.documents.proofs.chunkwhere.Outcomes.{leaves_no_text, leaves_some, read_stops}
 use Rattle.documents.proofs.chunkwhere.run.Goals as goal
 
@@ -20,7 +22,9 @@ returns-in_err-text g c =
     (for_both (g.R.Read.remaining (watched c.args.reader.now)) (g.W.Write.contents (watched c.args.writer.now)) _
     (λ input held is_input is_held not_read not_written.
     let (read, left) = rw is_input at c.in_ok-input.ensures.bytes in
-    leaves_no_text input held _ _ (rw read at c.in_err-text.ensures) (left, c.in_ok-input.ensures.failed ∙ not_read) (is_held, not_written)))
+    leaves_no_text input held _ _
+    (subst (λ bytes. (c.in_err-text.field-0.0 ≡ Memory) ⊎ text_of bytes (Err c.in_err-text.field-0.0)) read c.in_err-text.ensures)
+    (left, c.in_ok-input.ensures.failed ∙ not_read) (is_held, not_written)))
 
 pub returns-in_err-write_all : goal.returns-in_err-write_all
 returns-in_err-write_all g c =

@@ -13,14 +13,14 @@ returns-in_err-document g c = λ none.
 
 pub returns-then-document : goal.returns-then-document
 returns-then-document g c = λ none.
-    let (tree, reads, stands_for) = rw c.deref.ensures.value at c.in_ok-document.ensures in
-    (refl, refl, long_document tree (document_of c.in_ok-document.document) none reads stands_for c.if-document.true refl)
+    let stands_for = rw c.deref.ensures.value at c.in_ok-document.ensures in
+    (refl, refl, long_document (document_of c.in_ok-document.document) none stands_for c.if-document.true refl)
 
 pub returns : goal.returns
 returns g c = λ none.
-    let (tree, reads, stands_for) = rw c.deref.ensures.value at c.in_ok-document.ensures in
+    let stands_for = rw c.deref.ensures.value at c.in_ok-document.ensures in
     let document = document_of c.in_ok-document.document in
     step_follows _ _ _ (IsFirstFault c.args.input.items)
-    (λ text planned. of_document tree document none reads stands_for c.if-document.false planned)
-    (λ fault is. no_plan tree document none reads stands_for c.if-document.false is)
+    (λ text planned. of_document document none stands_for c.if-document.false planned)
+    (λ fault is. no_plan document none stands_for c.if-document.false is)
     _ _ _ c.write_plan.ensures

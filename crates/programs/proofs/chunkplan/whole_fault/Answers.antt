@@ -1,5 +1,5 @@
-use Rattle.std.proofs.Common.{◌≡◌, ◌⊎◌, ◌∙◌, ℕ, List, true, ap, arith, inl, inr, refl, subst, sym, true≢false, ⊎_elim}
-use Rattle.programs.specs.chunkplan.DocumentFault.{IsInputFault}
+use Rattle.std.proofs.Common.{◌≡◌, ◌⊎◌, ◌∙◌, ℕ, List, true, Err, ap, arith, inl, inr, refl, subst, sym, true≢false, ⊎_elim}
+use Rattle.programs.specs.chunkplan.Document.{document_in}
 use Rattle.programs.specs.chunkplan.Keys.{HasKeysBehind}
 use Rattle.programs.specs.chunkplan.PlanFault.{of_input, several_lines}
 use Rattle.programs.specs.chunkplan.RunFault.{is_not_json}
@@ -11,7 +11,8 @@ is_no_json : (fault : RunFault) → is_not_json fault ≡ true → fault ≡ Not
 is_no_json fault is = grind arith
 
 -- the input is no JSON
-no_json : (input : List ℕ) (fault : RunFault) → is_not_json fault ≡ true → (fault ≡ Memory) ⊎ IsInputFault input fault → IsInputFault input NotJson
+no_json : (input : List ℕ) (fault : RunFault) → is_not_json fault ≡ true → (fault ≡ Memory) ⊎ document_in input (Err fault)
+    → document_in input (Err NotJson)
 no_json input fault is which =
     let same = is_no_json fault is in
     ⊎_elim (λ memory. absurd (true≢false (sym is ∙ ap is_not_json memory))) (λ fails. rw same at fails) which

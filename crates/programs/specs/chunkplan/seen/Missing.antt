@@ -1,5 +1,5 @@
 -- What is known after some keys were read.
-use Rattle.std.specs.Prelude.{◌≡◌, ◌↔◌, ◌⊎◌, ◌++◌, ◌&&◌, ℕ, Bool, true, false, if◌then◌else◌, Contains, IfSome, length, List, [], ◌∷◌, Option, Some}
+use Rattle.std.specs.Prelude.{◌≡◌, ◌↔◌, ◌⊎◌, ◌++◌, ◌&&◌, ℕ, Bool, true, false, if◌then◌else◌, Contains, IfSome, length, List, [], ◌∷◌, Option, Some, Ok, Err}
 use Rattle.std.specs.Str.{IsUtf8}
 use Rattle.zarrs_chunk_base.specs.Dimension.{Dimension}
 use Rattle.zarrs_chunk_base.specs.StoreKey.{EndsInSlash}
@@ -10,10 +10,7 @@ use Rattle.zarrs_chunk_parts.specs.declared.part.Part.{Part}
 use Rattle.zarrs_chunk_plan.specs.declared.shares.share.Share.{Share}
 use Rattle.zarrs_chunk_plan.specs.declared.copy.stored_chunks.StoredChunks.{StoredChunks}
 use Rattle.zarrs_chunk_plan.specs.seen.StoredChunks.{Knows, is_stored}
-use Rattle.serde_json.specs.Data.{Data}
-use Rattle.zarrs_chunk_base.specs.Json.{IsJsonOf}
-use Rattle.programs.specs.chunkplan.Document.{Document, IsDocument}
-use Rattle.programs.specs.chunkplan.DocumentFault.{IsInputFault}
+use Rattle.programs.specs.chunkplan.Document.{Document, document_in}
 use Rattle.programs.specs.chunkplan.PlanFault.{IsFaultBeside}
 use Rattle.programs.specs.chunkplan.Planned.{IsPlannedBeside}
 use Rattle.programs.specs.chunkplan.Keys.{AreForeign, AreKeys, IsFirstNoText, foreign_lines}
@@ -71,8 +68,8 @@ BesideKeys Planned bytes text = (keys : List (List ℕ)) × AreKeys bytes keys �
 -- what is written for a first line with lines of keys after it, and the first fault of both
 abbrev pub IsTextOfLine : (line bytes text : List ℕ) → Type 0
 IsTextOfLine line bytes text =
-    (tree : Data) × (document : Document) × IsJsonOf line tree × IsDocument tree document × BesideKeys (IsPlannedBeside document) bytes text
+    (document : Document) × document_in line (Ok document) × BesideKeys (IsPlannedBeside document) bytes text
 
 abbrev pub IsFaultOfLine : (line bytes : List ℕ) → RunFault → Type 0
 IsFaultOfLine line bytes fault =
-    IsInputFault line fault ⊎ ((tree : Data) × (document : Document) × IsJsonOf line tree × IsDocument tree document × IsFaultBeside document bytes fault)
+    document_in line (Err fault) ⊎ ((document : Document) × document_in line (Ok document) × IsFaultBeside document bytes fault)

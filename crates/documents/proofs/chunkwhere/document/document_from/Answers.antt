@@ -1,97 +1,85 @@
-use Rattle.std.proofs.Common.{◌≡◌, ◌∙◌, None, Some, is_some, map, option_map, string_bytes, codes, refl, sym, ap, inl, inr, ⊎_elim}
-use Rattle.std.proofs.lemmas.Result.{err_from_is_err_and}
+use Rattle.std.proofs.Common.{◌≡◌, ◌≢◌, ◌∙◌, ℕ, List, Some, None, ap, arith, codes, inl, inr, length, map}
+use Rattle.std.proofs.Common.{option_and_then, option_map, refl, string_bytes, sym}
+use Rattle.serde_json.specs.Data.{Data}
+use Rattle.serde_json.specs.Find.{get}
 use Rattle.serde_json.specs.View.{view}
-use Rattle.documents.specs.Stored.{stored_of}
-use Rattle.documents.specs.chunkwhere.Document.{HasMembers, indices_in, keys_in, lists_in, misformed_indices, misformed_keys, misformed_stored}
-use Rattle.documents.specs.chunkwhere.RunFault.{of_document}
-use Rattle.documents.proofs.Members.{is_there}
-use Rattle.documents.proofs.chunkwhere.FormFaults.{has_members, indices_left, keys_left, no_member, no_shape}
+use Rattle.zarrs_chunk_base.specs.Json.{list_of, size_of}
+use Rattle.documents.specs.chunkwhere.Document.{form_in, indices_in, keys_in, lists_in, texts_of}
+use Rattle.documents.proofs.Readings.{stops_or}
 use Rattle.documents.proofs.chunkwhere.document.document_from.Goals as goal
 
-pub returns-in_err-required_member : goal.returns-in_err-required_member
-returns-in_err-required_member c =
-    let p = err_from_is_err_and c.from_residual.result c.from_residual.ensures.1 in
-    let tree = view c.args.tree in
-    rw (p.1, p.2) (inr (no_member tree _ _ (λ none. inl (none, refl)) c.in_err-required_member.ensures))
+-- the members that are read after the two that were taken out are those of the document
+module _ (d left : Data)
+    (are_left : (other : List ℕ) → other ≢ codes "chunk_grid" → other ≢ codes "chunk_key_encoding" → get other left ≡ get other d) where
+  keys_left : keys_in left ≡ keys_in d
+  keys_left = ap texts_of
+      (are_left (codes "keys") (λ same. absurd (omega (arith, ap length same))) (λ same. absurd (omega (arith, ap length same))))
 
-pub returns-in_err-required_member-2 : goal.returns-in_err-required_member-2
-returns-in_err-required_member-2 c =
-    let p = err_from_is_err_and c.from_residual-in_err-required_member-2.result c.from_residual-in_err-required_member-2.ensures.1 in
-    let tree = view c.args.tree in
-    let shape = is_there tree _ (codes "shape") c.in_ok-required_member.ensures in
-    rw (p.1, p.2) (inr (no_member tree _ _ (λ none. inr (shape, inl (none, refl))) c.in_err-required_member-2.ensures))
-
-pub returns-in_err-required_member-3 : goal.returns-in_err-required_member-3
-returns-in_err-required_member-3 c =
-    let p = err_from_is_err_and c.from_residual-in_err-required_member-3.result c.from_residual-in_err-required_member-3.ensures.1 in
-    let tree = view c.args.tree in
-    let shape = is_there tree _ (codes "shape") c.in_ok-required_member.ensures in
-    let grid = is_there tree _ (codes "chunk_grid") c.in_ok-required_member-2.ensures in
-    rw (p.1, p.2) (inr (no_member tree _ _ (λ none. inr (shape, inr (grid, inl (none, refl)))) c.in_err-required_member-3.ensures))
-
-pub returns-in_err-required_member-4 : goal.returns-in_err-required_member-4
-returns-in_err-required_member-4 c =
-    let p = err_from_is_err_and c.from_residual-in_err-required_member-4.result c.from_residual-in_err-required_member-4.ensures.1 in
-    let tree = view c.args.tree in
-    let shape = is_there tree _ (codes "shape") c.in_ok-required_member.ensures in
-    let grid = is_there tree _ (codes "chunk_grid") c.in_ok-required_member-2.ensures in
-    let encoding = is_there tree _ (codes "chunk_key_encoding") c.in_ok-required_member-3.ensures in
-    rw (p.1, p.2) (inr (no_member tree _ _ (λ none. inr (shape, inr (grid, inr (encoding, inl (none, refl))))) c.in_err-required_member-4.ensures))
+  indices_left : indices_in left ≡ indices_in d
+  indices_left = ap (option_and_then (list_of (list_of size_of)))
+      (are_left (codes "indices") (λ same. absurd (omega (arith, ap length same))) (λ same. absurd (omega (arith, ap length same))))
 
 pub returns-in_err-shape : goal.returns-in_err-shape
 returns-in_err-shape c =
-    let p = err_from_is_err_and c.from_residual-in_err-shape.result c.from_residual-in_err-shape.ensures.1 in
-    let tree = view c.args.tree in
-    let members : HasMembers tree =
-    has_members tree _ _ _ _ c.in_ok-required_member.ensures c.in_ok-required_member-2.ensures c.in_ok-required_member-3.ensures
-    c.in_ok-required_member-4.ensures in
-    rw (p.1, p.2)
-    (⊎_elim (λ memory. inl (ap of_document memory)) (λ is. inr (no_shape tree _ _ members c.in_ok-required_member.ensures is)) c.in_err-shape.ensures)
+    stops_or _ (form_in (view c.args.tree)) _ _ c.from_residual-in_err-shape.ensures.1 _ c.in_err-shape.ensures
+    (λ is. inr (_, c.in_ok-check_members.ensures, inr (_, c.in_ok-required_member.ensures, inl is)))
 
 pub returns-in_err-stored : goal.returns-in_err-stored
 returns-in_err-stored c =
-    let p = err_from_is_err_and c.from_residual-in_err-stored.result c.from_residual-in_err-stored.ensures.1 in
-    let tree = view c.args.tree in
-    let members : HasMembers tree =
-    has_members tree _ _ _ _ c.in_ok-required_member.ensures c.in_ok-required_member-2.ensures c.in_ok-required_member-3.ensures
-    c.in_ok-required_member-4.ensures in
-    rw (p.1, p.2)
-    (⊎_elim (λ memory. inl (ap of_document memory)) (λ is. inr (misformed_stored _ members (ap is_some c.in_ok-shape.ensures) is refl))
-    c.in_err-stored.ensures.stored)
+    stops_or _ (form_in (view c.args.tree)) _ _ c.from_residual-in_err-stored.ensures.1 _ c.in_err-stored.ensures.stored
+    (λ is. inr (_, c.in_ok-check_members.ensures, inr (_, c.in_ok-required_member.ensures, inr (_, c.in_ok-shape.ensures, inl is))))
 
 pub returns-in_default : goal.returns-in_default
 returns-in_default c =
-    let tree = view c.args.tree in
-    let members : HasMembers tree =
-    has_members tree _ _ _ _ c.in_ok-required_member.ensures c.in_ok-required_member-2.ensures c.in_ok-required_member-3.ensures
-    c.in_ok-required_member-4.ensures in
-    let no_indices : indices_in tree ≡ None =
-    sym (indices_left tree _ c.in_ok-stored.ensures.others) ∙ sym c.in_ok-indices.ensures ∙ ap (option_map (λ v. lists_in v.items)) c.in_default.is in
-    inr (misformed_indices (stored_of c.in_ok-stored.stored) members (ap is_some c.in_ok-shape.ensures) c.in_ok-stored.ensures.stored no_indices refl)
+    let none : indices_in (view c.args.tree) ≡ None =
+    sym (indices_left _ _ c.in_ok-stored.ensures.others) ∙ sym c.in_ok-indices.ensures ∙ ap (option_map (λ v. lists_in v.items)) c.in_default.is in
+    inr (inr (
+      _,
+      c.in_ok-check_members.ensures,
+      inr (
+        _,
+        c.in_ok-required_member.ensures,
+        inr (
+          _,
+          c.in_ok-shape.ensures,
+          inr (_, c.in_ok-stored.ensures.stored, inl (refl, none)),
+        ),
+      ),
+    ))
 
 pub returns-in_default-keys : goal.returns-in_default-keys
 returns-in_default-keys c =
-    let tree = view c.args.tree in
-    let members : HasMembers tree =
-    has_members tree _ _ _ _ c.in_ok-required_member.ensures c.in_ok-required_member-2.ensures c.in_ok-required_member-3.ensures
-    c.in_ok-required_member-4.ensures in
-    let indices : indices_in tree ≡ Some (lists_in c.in-Some.indices.items) =
-    sym (indices_left tree _ c.in_ok-stored.ensures.others) ∙ sym c.in_ok-indices.ensures ∙ ap (option_map (λ v. lists_in v.items)) c.in-Some.is in
-    let no_keys : keys_in tree ≡ None =
-    sym (keys_left tree _ c.in_ok-stored.ensures.others) ∙ sym c.in_ok-keys.ensures
+    let indices : indices_in (view c.args.tree) ≡ Some (lists_in c.in-Some.indices.items) =
+    sym (indices_left _ _ c.in_ok-stored.ensures.others) ∙ sym c.in_ok-indices.ensures ∙ ap (option_map (λ v. lists_in v.items)) c.in-Some.is in
+    let none : keys_in (view c.args.tree) ≡ None =
+    sym (keys_left _ _ c.in_ok-stored.ensures.others) ∙ sym c.in_ok-keys.ensures
     ∙ ap (option_map (λ v. map string_bytes v.items)) c.in_default-keys.is in
-    inr (misformed_keys (stored_of c.in_ok-stored.stored) members (ap is_some c.in_ok-shape.ensures) c.in_ok-stored.ensures.stored
-    (ap is_some indices)
-    no_keys refl)
+    inr (inr (
+      _,
+      c.in_ok-check_members.ensures,
+      inr (
+        _,
+        c.in_ok-required_member.ensures,
+        inr (_, c.in_ok-shape.ensures, inr (_, c.in_ok-stored.ensures.stored, inr (_, indices, inl (refl, none)))),
+      ),
+    ))
 
 pub returns : goal.returns
 returns c =
-    let tree = view c.args.tree in
-    record {
-      shape = c.in_ok-shape.ensures;
-      stored = c.in_ok-stored.ensures.stored;
-      indices = sym (indices_left tree _ c.in_ok-stored.ensures.others) ∙ sym c.in_ok-indices.ensures
-          ∙ ap (option_map (λ v. lists_in v.items)) c.in-Some.is;
-      keys = sym (keys_left tree _ c.in_ok-stored.ensures.others) ∙ sym c.in_ok-keys.ensures
-          ∙ ap (option_map (λ v. map string_bytes v.items)) c.in-Some-keys.is;
-    }
+    let indices : indices_in (view c.args.tree) ≡ Some (lists_in c.in-Some.indices.items) =
+    sym (indices_left _ _ c.in_ok-stored.ensures.others) ∙ sym c.in_ok-indices.ensures ∙ ap (option_map (λ v. lists_in v.items)) c.in-Some.is in
+    let keys : keys_in (view c.args.tree) ≡ Some (map string_bytes c.in-Some-keys.keys.items) =
+    sym (keys_left _ _ c.in_ok-stored.ensures.others) ∙ sym c.in_ok-keys.ensures
+    ∙ ap (option_map (λ v. map string_bytes v.items)) c.in-Some-keys.is in (
+      _,
+      c.in_ok-check_members.ensures,
+      (
+        _,
+        c.in_ok-required_member.ensures,
+        (
+          _,
+          c.in_ok-shape.ensures,
+          (_, c.in_ok-stored.ensures.stored, (_, indices, (_, keys, refl))),
+        ),
+      ),
+    )

@@ -1,32 +1,35 @@
-use Rattle.std.proofs.Common.{inr, refl}
-use Rattle.documents.specs.Stored.{stored_of}
-use Rattle.programs.specs.chunkplan.DocumentFault.{of_chunks, of_max_elements, of_order, of_stage, of_target_stored}
-use Rattle.programs.proofs.chunkplan.Exits.{exits, exits_or, exits_told}
+use Rattle.std.proofs.Common.{◌≡◌, None, Some, Err, inl, inr, refl, ⊎_elim}
+use Rattle.std.proofs.lemmas.Result.{MatchResult-weaker}
+use Rattle.serde_json.specs.View.{view}
+use Rattle.programs.specs.chunkplan.Document.{rechunking_in}
+use Rattle.programs.proofs.chunkplan.Exits.{exits_or, exits_told}
 use Rattle.programs.proofs.chunkplan.document.rechunking_to.Goals as goal
 
-pub returns-in_err-stored : goal.returns-in_err-stored
-returns-in_err-stored c =
-    exits_told _ _ _ _ c.from_residual-in_err-stored.ensures.1 c.in_err-stored.ensures
-    (λ is. of_target_stored _ c.requires c.in_ok-check_target.ensures is refl)
+pub returns-in_err-check_target : goal.returns-in_err-check_target
+returns-in_err-check_target c =
+    exits_or _ (λ fault. rechunking_in (view c.args.tree.now) (view c.args.target) (Err fault)) _ _ c.from_residual.ensures.1
+    c.in_err-check_target.ensures inl
 
 pub returns-in_err-most : goal.returns-in_err-most
 returns-in_err-most c =
-    exits_or _ _ _ _ c.from_residual-in_err-most.ensures.1 c.in_err-most.ensures
-    (of_max_elements (stored_of c.in_ok-stored.stored) c.requires c.in_ok-check_target.ensures c.in_ok-stored.ensures)
+    exits_told _ (λ fault. rechunking_in (view c.args.tree.now) (view c.args.target) (Err fault)) _ _ c.from_residual-in_err-most.ensures.1
+    c.in_err-most.ensures (λ is. inr (_, c.in_ok-check_target.ensures, inr (_, c.in_ok-stored.ensures, inl (_, is, refl))))
 
-pub returns-in_err-stage : goal.returns-in_err-stage
-returns-in_err-stage c =
+pub returns-in_err-stage-in-Some : goal.returns-in_err-stage-in-Some
+returns-in_err-stage-in-Some c =
     let bound = rw c.in-Some.is at c.in_ok-most.ensures in
-    exits_or _ _ _ _ c.from_residual-in_err-stage.ensures.1 c.in_err-stage.ensures
-    (of_stage (stored_of c.in_ok-stored.stored) c.in-Some.most c.requires c.in_ok-check_target.ensures c.in_ok-stored.ensures bound)
+    exits_told _ (λ fault. rechunking_in (view c.args.tree.now) (view c.args.target) (Err fault)) _ _ c.from_residual-in_err-stage-in-Some.ensures.1
+    c.in_err-stage-in-Some.ensures
+    (λ is. inr (_, c.in_ok-check_target.ensures, inr (_, c.in_ok-stored.ensures, inr (Some c.in-Some.most, bound, inl (_, is, refl)))))
 
-pub returns-in_err-member_order : goal.returns-in_err-member_order
-returns-in_err-member_order c =
-    exits _ _ _ _ c.from_residual-in_err-member_order.ensures.1
-    (inr (of_order (stored_of c.in_ok-stored.stored) c.requires c.in_ok-check_target.ensures c.in_ok-stored.ensures c.in_err-member_order.ensures))
+pub returns-in-Some : goal.returns-in-Some
+returns-in-Some c =
+    let bound = rw c.in-Some.is at c.in_ok-most.ensures in
+    (_, c.in_ok-check_target.ensures, (_, c.in_ok-stored.ensures, (Some c.in-Some.most, bound, (_, c.in_ok-stage-in-Some.ensures, refl))))
 
-pub returns-in_err-member_box-in-Target : goal.returns-in_err-member_box-in-Target
-returns-in_err-member_box-in-Target c =
-    let order = rw c.in-Target.is at c.in_ok-member_order.ensures in
-    exits_or _ _ _ _ c.from_residual-in_err-member_box-in-Target.ensures.1 c.in_err-member_box-in-Target.ensures
-    (of_chunks (stored_of c.in_ok-stored.stored) c.requires c.in_ok-check_target.ensures c.in_ok-stored.ensures order)
+pub returns : goal.returns
+returns c =
+    let none = rw c.in-None.is at c.in_ok-most.ensures in
+    MatchResult-weaker c.ordered.result c.ordered.ensures
+    (λ task is. (_, c.in_ok-check_target.ensures, (_, c.in_ok-stored.ensures, (None, none, is))))
+    (λ fault. ⊎_elim inl (λ is. inr (inr (_, c.in_ok-check_target.ensures, inr (_, c.in_ok-stored.ensures, inr (None, none, is))))))

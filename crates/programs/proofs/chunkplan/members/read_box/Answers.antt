@@ -8,7 +8,7 @@ pub returns-in-Ok : goal.returns-in-Ok
 returns-in-Ok c =
     let lists : pair_of (list_of size_of) (view c.args.tree.now) ≡ Some (c.in-Some.start.items, c.in-Some.shape.items) =
     sym (rw (c.in-Some.is, map-id c.in-Some.start.items, map-id c.in-Some.shape.items) at c.in_ok-start.ensures) in
-    record { lists = rw c.in-Ok.ensures.0 lists; is_box = c.in-Ok.ensures.1 }
+    (rw c.in-Ok.ensures.0 lists, c.in-Ok.ensures.1)
 
 pub returns-in-Err : goal.returns-in-Err
 returns-in-Err c =
