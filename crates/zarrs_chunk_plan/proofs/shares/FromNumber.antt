@@ -1,5 +1,5 @@
 -- A walk through the lists below a shape from the one with a number on.
-use Rattle.zarrs_chunk_plan.proofs.Common.{◌≡◌, ◌∙◌, ℕ, ◌+◌, ◌*◌, ◌-◌, List, [], ◌∷◌, Some, ap, drop, length, map, refl, replicate, sym, arith, take-length}
+use Rattle.zarrs_chunk_plan.proofs.Common.{◌≡◌, ◌∙◌, ℕ, ◌-◌, List, [], ◌∷◌, Some, drop, length, map, refl, replicate, sym, arith, take-length}
 use Rattle.zarrs_chunk_plan.proofs.Common.{drop-map, length-drop, slice_get, AreBelow, row_major, chunks_in, counted_from, between, rank, Box, IsBox}
 use Rattle.zarrs_chunk_plan.proofs.BoxCover.{below_from_zero}
 use Rattle.zarrs_chunk_plan.proofs.copy.MarkedChunks.{at_place, in_box, place_of, same_number}

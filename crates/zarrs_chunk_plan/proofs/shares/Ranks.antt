@@ -1,6 +1,6 @@
 -- The place of a list below a shape among all of them, and the list at a part of the way.
 use Rattle.zarrs_chunk_plan.proofs.Common.{◌≡◌, ◌∙◌, ℕ, zero, suc, ◌+◌, ◌-◌, ◌*◌, ◌<◌, ◌≤◌, ◌/◌, ◌%◌, List, [], ◌∷◌, ◌++◌, Contains, drop, length}
-use Rattle.zarrs_chunk_plan.proofs.Common.{map, refl, ap, sym, ⊎_elim, arith, div-add-mod, div-eq_of_lt, mod-lt, mul_assoc, mul_comm, row_fits}
+use Rattle.zarrs_chunk_plan.proofs.Common.{map, refl, ap, sym, arith, div-add-mod, div-eq_of_lt, mod-lt, mul_assoc, mul_comm, row_fits}
 use Rattle.zarrs_chunk_plan.proofs.Common.{drop-map, length-drop, length-map, AreBelow, row_major, rows, head_some, tail_some, rank}
 use Rattle.std.proofs.Math.Nat.{add-mul, div-lt_iff_lt-mul, mul-add-div}
 use Rattle.std.proofs.lemmas.List.{drop-append-le}

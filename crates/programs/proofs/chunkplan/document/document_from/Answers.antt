@@ -1,7 +1,7 @@
 use Rattle.std.proofs.Common.{Ok, Err, inl, inr, option_map, refl}
 use Rattle.serde_json.specs.View.{view}
 use Rattle.programs.specs.chunkplan.Document.{form_in}
-use Rattle.programs.proofs.chunkplan.Exits.{exits, exits_or, exits_told}
+use Rattle.programs.proofs.chunkplan.Exits.{exits_or, exits_told}
 use Rattle.programs.proofs.chunkplan.LeftMembers.{left_of}
 use Rattle.programs.proofs.chunkplan.document.document_from.Goals as goal
 

@@ -1,4 +1,4 @@
-use Rattle.std.proofs.Common.{◌≡◌, None, Some, Err, inl, inr, refl, ⊎_elim}
+use Rattle.std.proofs.Common.{None, Some, Err, inl, inr, refl, ⊎_elim}
 use Rattle.std.proofs.lemmas.Result.{MatchResult-weaker}
 use Rattle.serde_json.specs.View.{view}
 use Rattle.programs.specs.chunkplan.Document.{rechunking_in}

@@ -1,4 +1,4 @@
-use Rattle.std.proofs.Common.{Some, Err, inl, inr, refl}
+use Rattle.std.proofs.Common.{Some, inl, inr, refl}
 use Rattle.programs.proofs.chunkplan.Exits.{exits}
 use Rattle.programs.proofs.chunkplan.document.task_from.Goals as goal
 
