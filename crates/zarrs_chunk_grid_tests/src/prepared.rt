@@ -6,6 +6,7 @@ use std::process::Abort;
 use std::test::Fail;
 use zarrs_chunk_base::{ArraySubset, StoreKey};
 use zarrs_chunk_keys::{ChunkKeyEncoding, ChunkKeyEncodingTraits};
+use zarrs_chunk_prepared::laws::a_grid_has_so_many_numbers;
 use zarrs_chunk_prepared::{PreparedGrid, prepare_encoding, prepare_grid, read_encoding};
 use zarrs_chunks::ChunkGrid;
 
@@ -39,6 +40,7 @@ fn numbers(alloc: Global, shape: &[u64], text: &str) -> Result<Vec<u64>, Fail> {
 
 #[test]
 fn the_numbers_of_grids_are_written(rt: HostRuntime) -> Result<(), Fail> {
+    a_grid_has_so_many_numbers();
     let alloc = rt.alloc();
     let regular = r#"{"name":"regular","configuration":{"chunk_shape":[3]}}"#;
     let bounded = r#"{"name":"zarrs.regular_bounded","configuration":{"chunk_shape":[3,3]}}"#;

@@ -11,7 +11,7 @@ use zarrs_chunk_plan::laws::{
     no_two_parts_have_one_key, rechunkings_that_share_out_are_the_whole_one,
     shares_are_together_the_plan, the_other_way_round_has_the_same_copies, the_parts_tile_the_box,
     the_walk_gives_the_plan, the_walk_gives_the_rechunking, the_walk_gives_the_region,
-    the_walk_gives_the_resize, two_stages_are_together_one,
+    the_walk_gives_the_resize, there_is_a_plan, two_stages_are_together_one,
 };
 
 #[test]
@@ -36,6 +36,7 @@ fn of_rechunkings(rt: HostRuntime) -> Result<(), Fail> {
     two_stages_are_together_one(&source, &target, &source);
     each_line_holds_at_most(&source, &target);
     rechunkings_that_share_out_are_the_whole_one(&source, &target);
+    there_is_a_plan(&source, &target);
     Ok(())
 }
 
