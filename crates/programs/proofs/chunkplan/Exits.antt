@@ -1,4 +1,4 @@
--- What the exit of a `?` returns.
+-- What the exit of a `?` returns, and what is read up to it.
 use Rattle.std.proofs.Common.{◌≡◌, ◌⊎◌, ◌∙◌, Err, IsErrAnd, MatchResult, Result, ap, inl, inr, ⊎_elim}
 use Rattle.std.proofs.lemmas.Result.{err_from_is_err_and}
 use Rattle.programs.specs.chunkplan.RunFault.{of_document}
@@ -10,6 +10,13 @@ use Rattle.documents.specs.declared.document_fault.DocumentFault.TheVariants.{Me
 -- the call's fault is handed on
 pub handed : {X : Type 0} (r : Result X RunFault) (fault : RunFault) → IsErrAnd r (λ other. other ≡ fault) → r ≡ Err fault
 handed r fault is = let p = err_from_is_err_and r is in p.1 ∙ ap Err p.2
+
+-- what is read, and what is read next of it; as a value, and as a fault that comes later
+pub both : {X : Type 0} {B C : X → Type 0} (x : X) → B x → C x → (y : X) × B y × C y
+both x first next = (x, first, next)
+
+pub later : {A X : Type 0} {B C : X → Type 0} (x : X) → B x → C x → A ⊎ ((y : X) × B y × C y)
+later x first next = inr (both x first next)
 
 module _ {X : Type 0} (P : X → Type 0) (F : RunFault → Type 0) (r : Result X RunFault) where
   -- what is said of a call's fault

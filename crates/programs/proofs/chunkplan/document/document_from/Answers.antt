@@ -1,7 +1,7 @@
 use Rattle.std.proofs.Common.{Ok, Err, inl, inr, option_map, refl}
 use Rattle.serde_json.specs.View.{view}
 use Rattle.programs.specs.chunkplan.Document.{form_in}
-use Rattle.programs.proofs.chunkplan.Exits.{exits_or, exits_told}
+use Rattle.programs.proofs.chunkplan.Exits.{both, exits_or, exits_told, later}
 use Rattle.programs.proofs.chunkplan.LeftMembers.{left_of}
 use Rattle.programs.proofs.chunkplan.document.document_from.Goals as goal
 
@@ -12,74 +12,30 @@ returns-in_err-check_document c =
 pub returns-in_err-wanted : goal.returns-in_err-wanted
 returns-in_err-wanted c =
     exits_told _ (λ fault. form_in (view c.args.tree) (Err fault)) _ _ c.from_residual-in_err-wanted.ensures.1 c.in_err-wanted.ensures
-    (λ is. inr (_, c.in_ok-check_document.ensures, inr (_, c.in_ok-shape.ensures, inl (_, is, refl))))
+    (λ is. later _ c.in_ok-check_document.ensures (later _ c.in_ok-shape.ensures (inl (_, is, refl))))
 
 pub returns-in_err-keys : goal.returns-in_err-keys
 returns-in_err-keys c =
     exits_told _ (λ fault. form_in (view c.args.tree) (Err fault)) _ _ c.from_residual-in_err-keys.ensures.1 (inr c.in_err-keys.ensures)
-    (λ is. inr (_, c.in_ok-check_document.ensures, inr (_, c.in_ok-shape.ensures, inr (_, c.in_ok-wanted.ensures, inl (_, is, refl)))))
+    (λ is. later _ c.in_ok-check_document.ensures (later _ c.in_ok-shape.ensures (later _ c.in_ok-wanted.ensures (inl (_, is, refl)))))
 
 pub returns-in_err-stored : goal.returns-in_err-stored
 returns-in_err-stored c =
     exits_told _ (λ fault. form_in (view c.args.tree) (Err fault)) _ _ c.from_residual-in_err-stored.ensures.1 c.in_err-stored.ensures.stored
-    (λ is. inr (
-      _,
-      c.in_ok-check_document.ensures,
-      inr (
-        _,
-        c.in_ok-shape.ensures,
-        inr (
-          _,
-          c.in_ok-wanted.ensures,
-          inr (
-            _,
-            c.in_ok-keys.ensures,
-            inl (_, is, refl),
-          ),
-        ),
-      ),
-    ))
+    (λ is. later _ c.in_ok-check_document.ensures (later _ c.in_ok-shape.ensures (later _ c.in_ok-wanted.ensures
+    (later _ c.in_ok-keys.ensures (inl (_, is, refl))))))
 
 pub returns-in_err-task : goal.returns-in_err-task
 returns-in_err-task c =
     let left = left_of (view c.args.tree) (view c.take_stored.new.tree) (view c.take_member-target.new.tree) c.in_ok-stored.ensures.others
     c.take_member-target.ensures.others (option_map view c.take_member-target.result) c.take_member-target.ensures.taken in
     exits_or _ (λ fault. form_in (view c.args.tree) (Err fault)) _ _ c.from_residual-in_err-task.ensures.1 c.in_err-task.ensures
-    (λ is. inr (
-      _,
-      c.in_ok-check_document.ensures,
-      inr (
-        _,
-        c.in_ok-shape.ensures,
-        inr (
-          _,
-          c.in_ok-wanted.ensures,
-          inr (
-            _,
-            c.in_ok-keys.ensures,
-            inr (_, c.in_ok-stored.ensures.stored, inl (left (Err _) is)),
-          ),
-        ),
-      ),
-    ))
+    (λ is. later _ c.in_ok-check_document.ensures (later _ c.in_ok-shape.ensures (later _ c.in_ok-wanted.ensures
+    (later _ c.in_ok-keys.ensures (later _ c.in_ok-stored.ensures.stored (inl (left (Err _) is)))))))
 
 pub returns : goal.returns
 returns c =
     let left = left_of (view c.args.tree) (view c.take_stored.new.tree) (view c.take_member-target.new.tree) c.in_ok-stored.ensures.others
-    c.take_member-target.ensures.others (option_map view c.take_member-target.result) c.take_member-target.ensures.taken in (
-      _,
-      c.in_ok-check_document.ensures,
-      (
-        _,
-        c.in_ok-shape.ensures,
-        (
-          _,
-          c.in_ok-wanted.ensures,
-          (
-            _,
-            c.in_ok-keys.ensures,
-            (_, c.in_ok-stored.ensures.stored, (_, left (Ok _) c.in_ok-task.ensures, refl)),
-          ),
-        ),
-      ),
-    )
+    c.take_member-target.ensures.others (option_map view c.take_member-target.result) c.take_member-target.ensures.taken in
+    both _ c.in_ok-check_document.ensures (both _ c.in_ok-shape.ensures (both _ c.in_ok-wanted.ensures (both _ c.in_ok-keys.ensures
+    (both _ c.in_ok-stored.ensures.stored (both _ (left (Ok _) c.in_ok-task.ensures) refl)))))

@@ -1,7 +1,7 @@
-use Rattle.std.proofs.Common.{Err, inl, inr, refl}
+use Rattle.std.proofs.Common.{Err, inl, refl}
 use Rattle.serde_json.specs.View.{view}
 use Rattle.programs.specs.chunkplan.Document.{region_in}
-use Rattle.programs.proofs.chunkplan.Exits.{exits_or, exits_told}
+use Rattle.programs.proofs.chunkplan.Exits.{both, exits_or, exits_told, later}
 use Rattle.programs.proofs.chunkplan.document.region_to.Goals as goal
 
 pub returns-in_err-check_type : goal.returns-in_err-check_type
@@ -13,47 +13,21 @@ pub returns-in_err-target : goal.returns-in_err-target
 returns-in_err-target c =
     exits_told _ (λ fault. region_in (view c.args.tree.now) (view c.args.target) (view c.args.subset.now) (Err fault)) _ _
     c.from_residual-in_err-target.ensures.1 c.in_err-target.ensures
-    (λ is. inr (_, c.in_ok-check_type.ensures, inr (_, c.in_ok-shape.ensures, inl (_, is, refl))))
+    (λ is. later _ c.in_ok-check_type.ensures (later _ c.in_ok-shape.ensures (inl (_, is, refl))))
 
 pub returns-in_err-region : goal.returns-in_err-region
 returns-in_err-region c =
     exits_or _ (λ fault. region_in (view c.args.tree.now) (view c.args.target) (view c.args.subset.now) (Err fault)) _ _
     c.from_residual-in_err-region.ensures.1 c.in_err-region.ensures
-    (λ is. inr (_, c.in_ok-check_type.ensures, inr (_, c.in_ok-shape.ensures, inr (_, c.in_ok-target.ensures, inl is))))
+    (λ is. later _ c.in_ok-check_type.ensures (later _ c.in_ok-shape.ensures (later _ c.in_ok-target.ensures (inl is))))
 
 pub returns-in_err-at : goal.returns-in_err-at
 returns-in_err-at c =
     exits_told _ (λ fault. region_in (view c.args.tree.now) (view c.args.target) (view c.args.subset.now) (Err fault)) _ _
     c.from_residual-in_err-at.ensures.1 c.in_err-at.ensures
-    (λ is. inr (
-      _,
-      c.in_ok-check_type.ensures,
-      inr (
-        _,
-        c.in_ok-shape.ensures,
-        inr (
-          _,
-          c.in_ok-target.ensures,
-          inr (_, c.in_ok-region.ensures, inl (_, is, refl)),
-        ),
-      ),
-    ))
+    (λ is. later _ c.in_ok-check_type.ensures (later _ c.in_ok-shape.ensures (later _ c.in_ok-target.ensures
+    (later _ c.in_ok-region.ensures (inl (_, is, refl))))))
 
 pub returns : goal.returns
-returns c = (
-  _,
-  c.in_ok-check_type.ensures,
-  (
-    _,
-    c.in_ok-shape.ensures,
-    (
-      _,
-      c.in_ok-target.ensures,
-      (
-        _,
-        c.in_ok-region.ensures,
-        (_, c.in_ok-at.ensures, refl),
-      ),
-    ),
-  ),
-)
+returns c =
+    both _ c.in_ok-check_type.ensures (both _ c.in_ok-shape.ensures (both _ c.in_ok-target.ensures (both _ c.in_ok-region.ensures (both _ c.in_ok-at.ensures refl))))
