@@ -15,7 +15,7 @@ pub versioned_exact : (IsKey : List ℕ → List ℕ → Type 0) (chunk other ke
 versioned_exact IsKey chunk other key exact (own, is, begins) (next, also, also_begins) =
     exact own is (subst (IsKey other) (same_own next own (let same : codes "v1." ++ next ≡ codes "v1." ++ own = cc in same)) also)
 
--- each list of numbers has a key, where it has one under the other encoding
+-- a list of numbers has a key if it has one under the other encoding
 pub versioned_has : (IsKey : List ℕ → List ℕ → Type 0) (chunk : List ℕ) → (own : List ℕ) × IsKey chunk own
     → (key : List ℕ) × IsVersioned IsKey chunk key
 versioned_has IsKey chunk (own, is) = (codes "v1." ++ own, (own, is, refl))

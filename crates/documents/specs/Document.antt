@@ -37,11 +37,11 @@ in_form form name value (Ok x) = form value ≡ Some x
 in_form form name value (Err (WrongValue by)) = (by.now ≡ name) × (form value ≡ None)
 in_form form name value (Err _) = ⊥
 
--- a member that is of a form, where there is one
+-- a member that is of a form, if there is one
 abbrev pub optional_in : {X : Type 0} → (form : Data → Option X) → (field : List ℕ) → Data → Result (Option X) DocumentFault → Type 0
 optional_in form field d = optional (gives None) (λ m. then (in_form form field m) (λ x. gives (Some x))) (get field d)
 
--- and what stands for it, where there is none
+-- and what stands for it, if it is absent
 abbrev pub in_form_or : {X : Type 0} → (absent : X) → (form : Data → Option X) → (field : List ℕ) → Data → Result X DocumentFault → Type 0
 in_form_or absent form field d = optional (gives absent) (in_form form field) (get field d)
 
@@ -49,7 +49,7 @@ in_form_or absent form field d = optional (gives absent) (in_form form field) (g
 abbrev pub shape_in : (name : List ℕ) → Data → Result (List ℕ) DocumentFault → Type 0
 shape_in name d = then (required (codes "shape") name d) (in_form (list_of size_of) name)
 
--- an extension's metadata, or why a value is none
+-- an extension's metadata, or why a value isn't an extension's metadata
 abbrev pub extension_in : (name : List ℕ) → Data → Result Extension DocumentFault → Type 0
 extension_in name value (Ok e) = IsExtension value e
 extension_in name value (Err (Metadata by error)) = (by.now ≡ name) × IsMetadataFault value error

@@ -24,7 +24,7 @@ module _ {F : Type 0} where
   abbrev pub IsReadOr : {X Y : Type 0} → (memory : F) → (seen : X → Y) → (Result Y F → Type 0) → Result X F → Type 0
   IsReadOr memory seen reading r = MatchResult r (λ x. reading (Ok (seen x))) (λ fault. (fault ≡ memory) ⊎ reading (Err fault))
 
--- the same, with faults that are told otherwise
+-- the same, with each fault as another type has it
 abbrev pub told : {X F G : Type 0} → (by : F → G) → (Result X F → Type 0) → Result X G → Type 0
 told {F = F} by reading (Ok x) = reading (Ok x)
 told {F = F} by reading (Err fault) = (first : F) × reading (Err first) × (fault ≡ by first)

@@ -31,7 +31,7 @@ IsCreateFault stored shape (NoEncoding error) =
     ((grid : Grid) × IsGrid stored.chunk_grid shape grid) × IsEncodingFault stored.chunk_key_encoding error
 IsCreateFault _ _ _ = ⊥
 
--- the grid and the encoding, or why there are none
+-- the grid and the encoding, or why they can't be made
 abbrev pub array_of : Stored → List ℕ → Result (Grid × Encoding) CreateFault → Type 0
 array_of stored shape (Ok array) = IsStored stored shape array.0 array.1
 array_of stored shape (Err fault) = IsCreateFault stored shape fault

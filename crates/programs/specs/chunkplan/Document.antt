@@ -93,7 +93,7 @@ document_of d =
 
 -- ---- what members say, or the first of their faults
 
--- a member that is true or false; where it is absent, as where it is false
+-- a member that is true or false, or false if it is absent
 abbrev pub flag_in : (field : List ℕ) → Data → Result Bool DocumentFault → Type 0
 flag_in = in_form_or false as_bool
 
@@ -114,7 +114,7 @@ stage_of d = option_and_then (λ n. cond (n == 1) (Some First) (cond (n == 2) (S
 abbrev pub most_of : Data → Option ℕ
 most_of d = option_and_then (λ n. cond (nat_lt (2 ^ 20) n) None (Some n)) (size_of d)
 
--- How byte ranges are wanted: where `item_size` is there, it is a size from 1 on, and `memory_order` and `max_ranges` say the rest.
+-- How byte ranges are asked for. If `item_size` is there, it is a size from 1 on, and `memory_order` and `max_ranges` say the rest.
 abbrev pub ranges_by : Data → Option ℕ → Result (Option RangesWanted) DocumentFault → Type 0
 ranges_by d None = gives None
 ranges_by d (Some item) =
@@ -136,7 +136,7 @@ abbrev pub whole_plan : Result Share DocumentFault → Type 0
 whole_plan (Ok share) = (share.number ≡ 0) × (share.of ≡ 1)
 whole_plan (Err fault) = ⊥
 
--- The member `share` is such a list; where it is absent, the share is the one that is the whole plan.
+-- The member `share` is such a list. If it is absent, the share is the whole plan.
 abbrev pub share_in : Data → Result Share DocumentFault → Type 0
 share_in d = optional whole_plan share_of (get (codes "share") d)
 
@@ -156,13 +156,13 @@ box_of name value (Err (fault.Box by error)) = (by.now ≡ name)
     × (start : List ℕ) × (shape : List ℕ) × (pair_of (list_of size_of) value ≡ Some (start, shape)) × IsBoxFault start shape error
 box_of name value (Err _) = ⊥
 
--- a member that is one, where it is there
+-- a member that is a box, if it is there
 abbrev pub box_in : (field : List ℕ) → Data → Result (Option Box) RunFault → Type 0
 box_in field d = optional (gives None) (λ m. then (box_of field m) (λ b. gives (Some b))) (get field d)
 
 -- ---- which members there are
 
--- each member of the object is one of these, or the first that is none
+-- each member of the object is one of these, or the first that isn't
 abbrev pub known_in : (UnknownMember → RunFault) → (known : List (List ℕ)) → Data → Result (Unit {0}) RunFault → Type 0
 known_in by known d (Ok _) = HasOnly known d
 known_in by known d (Err fault) = (member : UnknownMember) × (fault ≡ by member) × IsFirstUnknown known d member
@@ -215,7 +215,7 @@ abbrev pub rechunking_by : Data → Stored → Order → Result Task RunFault �
 rechunking_by d stored Target = then (box_in (codes "chunks") d) (λ chunks. gives (rechunk_to stored chunks))
 rechunking_by d stored Source = gives (rechunk_by_source stored)
 
--- one of which a worker holds at most so many elements, or one in an order
+-- a rechunking of which a worker holds at most this number of elements, or one in an order
 abbrev pub rechunking_within : Data → Stored → (most : Option ℕ) → Result Task RunFault → Type 0
 rechunking_within d stored (Some most) =
     then (told of_document (optional_in stage_of (codes "stage") d)) (λ stage. gives (rechunk_within stored most stage))
