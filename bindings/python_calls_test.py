@@ -395,7 +395,7 @@ def small_and_large(tally):
 
 
 def cut(array, ends, key):
-    """The parts of an array between these ends along each dimension, by key."""
+    """The parts of an intermediate array these ends along each dimension, by key."""
     pieces = [[*zip([0, *places], places)] for places in ends]
     chunks = itertools.product(*(range(len(part)) for part in pieces))
     return {key(chunk): array[tuple(slice(*part[number]) for part, number in zip(pieces, chunk))] for chunk in chunks}

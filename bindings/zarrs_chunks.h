@@ -245,8 +245,8 @@ int32_t zarrs_parts_of(
 /* The line that answers a question, which is a JSON object as crates/chunkcalls/CALLING.md says: an answer as compact JSON, or `refused:` or
  * `unreadable:` and why; and a line feed. *needed gets how many bytes it has. ZARRS_SHORT_BUFFER where line is shorter: nothing is written to
  * it. A walk ends where its items alone are longer than the buffer, so a call takes no more memory than in proportion to the question and the buffer,
- * however many items are asked for; from a number on, a chunk without a box is counted there as if it had one. Then *needed is SIZE_MAX, since the
- * length isn't known: a greater buffer may do, or fewer items, from a later one on. */
+ * however many items are asked for. Then *needed is SIZE_MAX, since the length isn't known: a greater buffer may do, or fewer items, from a later
+ * one on. */
 int32_t zarrs_answer(
     const uint8_t *question, size_t question_len,
     uint8_t *line, size_t line_len,

@@ -4,15 +4,15 @@
     python3 measure/stages.py
 
 The array has 8760 x 720 x 1440 elements, its source chunks of [1, 720, 1440] and its target such of [8760, 10, 10]; a
-worker may hold 2^28 elements. The array between is cut as `chunkplan` does it, by the model in `tools/stages.py`, and
+worker may hold 2^28 elements. The intermediate array is cut as `chunkplan` does it, by the model in `tools/stages.py`, and
 as the library rechunker does it. Nothing is read or run: each count is a product over the dimensions. For each stage it
 prints how many chunks are decoded, with repeats, and how many elements these have.
 
 Where a line is one chunk that is written, as in the plans of `chunkplan`, whoever does it reads what this one chunk
 gets, and the next line reads the same chunks again. rechunker has tasks that fill the bound with what they read, and
 write several chunks of it, so each chunk is read once or nearly so: by far fewer reads than any line by line.
-`chunkplan` chooses by the number of chunks alone. Its chunks between are large: fewer are read than by rechunker's,
-line by line, but they have more elements together, since a line of the second stage decodes five whole chunks between
+`chunkplan` chooses by the number of chunks alone. Its intermediate chunks are large: fewer are read than by rechunker's,
+line by line, but they have more elements together, since a line of the second stage decodes five whole intermediate chunks
 for a column of 10 x 10.
 """
 import math
@@ -48,7 +48,7 @@ def enlarged(chunk_shape, limits):
 
 
 def of_rechunker():
-    """The shapes of what a task of rechunker reads from the source, of the chunks between, and of what a task
+    """The shapes of what a task of rechunker reads from the source, of the intermediate chunks, and of what a task
     writes."""
     read = enlarged(SOURCE, [max(pair) for pair in zip(SOURCE, TARGET)])
     written = enlarged(TARGET, SHAPE)
@@ -74,7 +74,7 @@ def main():
         both = (SOURCE, reads(SOURCE, between)), (between, reads(between, TARGET))
         row(f"two, by {between} of {name}, a line a chunk", *both)
     row(f"two, by {theirs} in tasks of rechunker", (SOURCE, reads(SOURCE, read)), (theirs, reads(theirs, written)))
-    print(f"A task of rechunker reads {read} and writes all chunks between of it, or reads all those of {written}.")
+    print(f"A task of rechunker reads {read} and writes all intermediate chunks of it, or reads all those of {written}.")
 
 
 if __name__ == "__main__":

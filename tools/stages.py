@@ -1,4 +1,4 @@
-"""Rechunkings in two stages: which chunk shapes are tried for the array between, which of them fit where a worker may
+"""Rechunkings in two stages: which chunk shapes are tried for the intermediate array, which of them fit where a worker may
 hold so many elements, and how many chunks both stages read by each. The chunks that an array uses are found by asking
 each of its indices.
 
@@ -35,8 +35,8 @@ def holds_at_most(shape, other, most):
 
 
 def fits_in_one(source, target, most):
-    """Whether a rechunking can go in one stage."""
-    return holds_at_most(largest_chunk(source), largest_chunk(target), most)
+    """Whether a rechunking can go in one stage. An array without elements is within any bound."""
+    return 0 in source.shape or holds_at_most(largest_chunk(source), largest_chunk(target), most)
 
 
 def edges_tried(size, edge, other):
@@ -63,7 +63,7 @@ def fitting(source, target, most):
     ]
     for choice in itertools.product(*along):
         shape, first, second = ([row[place] for row in choice] for place in range(3))
-        if all(holds_at_most(shape, end, most) for end in ends):
+        if 0 in source.shape or all(holds_at_most(shape, end, most) for end in ends):
             yield shape, min(math.prod(first) + math.prod(second), GREATEST)
 
 
@@ -79,18 +79,20 @@ def copies_along(source, target):
 
 
 def between(shape, chunk_shape):
-    """The array between: its grid and its encoding."""
+    """The intermediate array: its grid and its encoding."""
     return Grid(regular(*chunk_shape), shape), Encoding("default")
 
 
 def stages(source, target, chunk_shape):
-    """The source and the target of each stage, by an array between of this chunk shape, each with its encoding."""
+    """The source and the target of each stage, by an intermediate array of this chunk shape, each with its encoding."""
     middle = between(source[0].shape, chunk_shape)
     return [(source, middle), (middle, target)]
 
 
 def bounds(source, target):
     """The least bound under which some shape fits, and the least under which one stage does."""
+    if 0 in source.shape:
+        return 0, 0
     ends = [math.prod(largest_chunk(grid)) for grid in (source, target)]
     return math.prod(map(min, all_tried(source, target))) + max(ends), sum(ends)
 

@@ -1,5 +1,5 @@
 #!/usr/bin/env python3
-"""Makes the array between by which a rechunking goes in two stages: an array without elements, of the chunk shape that
+"""Makes the intermediate array by which a rechunking goes in two stages: an array without elements, of the chunk shape that
 `chunkplan` chooses.
 
     make_between.py SOURCE TARGET BETWEEN --max-elements N
@@ -80,7 +80,7 @@ def make(folder, metadata):
 
 
 def main():
-    parser = argparse.ArgumentParser(description="Makes the array between by which a rechunking goes in two stages.")
+    parser = argparse.ArgumentParser(description="Makes the intermediate array by which a rechunking goes in two stages.")
     parser.add_argument("source", metavar="SOURCE")
     parser.add_argument("target", metavar="TARGET")
     parser.add_argument("between", metavar="BETWEEN")
@@ -90,7 +90,7 @@ def main():
     counts = counts_of(source, target, words.max_elements)
     shape, stages = counts["between"], counts["stages"]
     if shape is None:
-        raise Refused(f"no chunks of an array between are small enough for {words.max_elements} elements: allow more")
+        raise Refused(f"no chunks of an intermediate array are small enough for {words.max_elements} elements: allow more")
     make(words.between, metadata_of(source, shape))
     two, one = sum(stage["copies"] for stage in stages), counts["one_stage"]["copies"]
     more = "" if counts["fits"] else ", and holds more"

@@ -1,10 +1,10 @@
 #!/usr/bin/env bash
-# Rechunks in two stages, by an array between, so that a worker holds at most N elements.
+# Rechunks in two stages, by an intermediate array, so that a worker holds at most N elements.
 #
 #     two_stages.sh SOURCE TARGET ROOM N [--again]
 #
-# ROOM is a folder for the array between and for what was done, which a second run goes on from. If a run there ended well
-# and SOURCE was changed since, it is refused; with --again all lines are done again. The array between is removed at the
+# ROOM is a folder for the intermediate array and for what was done, which a second run goes on from. If a run there ended well
+# and SOURCE was changed since, it is refused; with --again all lines are done again. The intermediate array is removed at the
 # end. The environment may say which CHUNKPLAN and which PYTHON to run, as CACHE how many megabytes of chunks that were read
 # a worker keeps besides (0), and as WORDS more words for the worker of the first stage, such as --missing-is-an-error.
 set -euo pipefail
@@ -33,7 +33,7 @@ fi
 mv "$room/document.new" "$room/document"
 . "$tools/finished.sh" "$room" "${5:-}"
 
-# If a run ended well and nothing changed TARGET since, the stages aren't done again: the array between was removed.
+# If a run ended well and nothing changed TARGET since, the stages aren't done again: the intermediate array was removed.
 is_left() {
     [ -e "$finished" ] && "$PYTHON" "$tools/fingerprint.py" "$target" | cmp -s - "$room/left" &&
         "$PYTHON" "$tools/check_done.py" "$target" "$room/done.2" 2> /dev/null

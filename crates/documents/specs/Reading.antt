@@ -12,6 +12,11 @@ module _ {F : Type 0} where
   gives x (Ok y) = y ≡ x
   gives x (Err fault) = ⊥
 
+  -- what is made of what is read, without a fault of its own
+  abbrev pub made_of : {X Y : Type 0} → (first : Result X F → Type 0) → (Makes : X → Y → Type 0) → Result Y F → Type 0
+  made_of first Makes (Ok y) = (x : _) × first (Ok x) × Makes x y
+  made_of first Makes (Err fault) = first (Err fault)
+
   -- by whether a member is there
   abbrev pub optional : {X Y : Type 0} → (absent : Result Y F → Type 0) → (there : X → Result Y F → Type 0) → Option X → Result Y F → Type 0
   optional absent there member r = MatchOption member (absent r) (λ m. there m r)

@@ -1,3 +1,4 @@
+pub mod Common
 pub mod Counts
 pub mod Ended
 pub mod KeptLines

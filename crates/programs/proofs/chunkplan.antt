@@ -2,6 +2,7 @@ pub mod Appended
 pub mod Asked
 pub mod Begun
 pub mod Behind
+pub mod Common
 pub mod CountedPlans
 pub mod Digits
 pub mod Exits
@@ -12,7 +13,6 @@ pub mod KeySteps
 pub mod LeftMembers
 pub mod Numbered
 pub mod Pieces
-pub mod ReadPlans
 pub mod RunOutcomes
 pub mod Steps
 pub mod StoredLines

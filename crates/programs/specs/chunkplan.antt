@@ -1,10 +1,10 @@
+pub mod Common
 pub mod CountsLine
 pub mod Document
 pub mod Keys
 pub mod Known
 pub mod Line
 pub mod MemberRules
-pub mod PlanFault
 pub mod Planned
 pub mod Run
 pub mod RunFault

@@ -12,7 +12,7 @@
 //! | `opened` | the arrays that a document stores, and the walks over them |
 //! | `plan` | the plan that a document asks for |
 //! | `within` | the plan of a rechunking of which a worker holds at most so many elements |
-//! | `between` | the array between, by which a rechunking goes in two stages |
+//! | `between` | the intermediate array, by which a rechunking goes in two stages |
 //! | `copying` | the lines of a plan, sent as they are made |
 //! | `line` | one line |
 //! | `part_ranges` | the byte ranges of a part, as a line has them |
@@ -20,17 +20,16 @@
 //! | `missing` | what is left of a plan beside keys |
 //! | `product` | products of numbers, in decimal digits |
 //! | `run_fault` | why a run stops |
-ghost use Rattle.std.specs.Prelude.{◌≡◌, ◌≤◌, ◌⊎◌, ℕ, false, IfOk, IfSome, List, MatchResult, Ok, Err, OnOk, Some};
+ghost use Rattle.std.specs.Prelude.{◌≡◌, ◌≤◌, ◌⊎◌, ℕ, false, IfOk, IfSome, List, MatchResult, Err, OnOk, Some};
 ghost use Rattle.std.specs.Io.KnownBytes.{Keeps};
 ghost use Rattle.streams.specs.Watched.{has_failed, watched};
+ghost use Rattle.documents.specs.Reading.{IsReadOr};
 ghost use Rattle.programs.specs.chunkplan.Document.{document_in, document_of};
 ghost use Rattle.programs.specs.chunkplan.Keys.{HasKeysBehind, first_line};
-ghost use Rattle.programs.specs.chunkplan.PlanFault.{IsFirstFault, IsWholeFault};
-ghost use Rattle.programs.specs.chunkplan.Planned.{IsPlanOf};
-ghost use Rattle.programs.specs.chunkplan.seen.Missing.{IsFaultOfLine, IsTextOfLine};
+ghost use Rattle.programs.specs.chunkplan.Planned.{IsPlanOf, IsWholeFault, text_of_line, whole_in};
 ghost use Rattle.streams.specs.seen.Lines.{left};
 ghost use Rattle.programs.specs.chunkplan.Run.{RunEndsWith, RunLeaves};
-ghost use Rattle.programs.specs.chunkplan.seen.Steps.{InputStepLeaves, ReadStepLeaves, StepLeaves};
+ghost use Rattle.programs.specs.chunkplan.seen.Steps.{InputStepLeaves, Leaves, ReadLeaves};
 ghost use Rattle.programs.specs.chunkplan.RunFault.{is_not_json};
 ghost use Rattle.programs.specs.declared.chunkplan.run_fault.RunFault.TheVariants.{Memory};
 ghost use Rattle.streams.specs.Streams.{streams_of};
@@ -93,7 +92,7 @@ pub fn run_to_status<R: Read, W: Write, E: Write>(
 /// The first fault: a failed read; a text that is no JSON, or no object; a member that isn't known, then one that is missing, then one that
 /// doesn't go with the others, then one that isn't of its form; a grid or an encoding that can't be made, then those of the target; a box with
 /// another number of dimensions; a box of elements that has no cover, where it isn't clipped to the array; a region that doesn't lie in the array, or
-/// in the target's; lines of one stage that would hold too many elements, no array between, or too much to go through for either; a grid of the new
+/// in the target's; lines of one stage that would hold too many elements, no intermediate array, or too much to go through for either; a grid of the new
 /// shape that can't be made. If keys follow the document, then more lines than there are bits for, a failed read, and the first line that isn't UTF-8. If
 /// keys follow a document of several lines, this is the fault in place of no JSON. Nothing has been written then. After a failed write, or where memory
 /// runs out, a beginning of the plan may have been written.
@@ -144,7 +143,7 @@ fn answer_beside_keys<R: Read, W: Write>(
 ) -> Result<(), RunFault>
     requires { HasKeysBehind line.items }
     ensures { (bytes : List ℕ) → left lines.old (R.remaining (watched reader.old)) ≡ Some bytes
-        → ReadStepLeaves (IsTextOfLine line.items bytes) (IsFaultOfLine line.items bytes) result
+        → ReadLeaves (text_of_line line.items bytes) result
         (has_failed reader.old) (has_failed reader.new) (R.remaining (watched reader.new))
         (written W.contents sink.old) (written W.contents sink.new) }
 {
@@ -156,7 +155,7 @@ fn answer_beside_keys<R: Read, W: Write>(
 /// Sends the plan that an input asks for, which is all a document.
 fn answer<W: Write>(alloc: Global, input: Vec<u8>, sink: &mut Sink<W>) -> Result<(), RunFault>
     ensures { (¬ HasKeysBehind (first_line input.items))
-        → StepLeaves (IsPlanOf input.items) (IsFirstFault input.items) result
+        → Leaves (IsPlanOf input.items) result
         (written W.contents sink.old) (written W.contents sink.new) }
 {
     let document = parse_whole(alloc, &input)?;
@@ -172,8 +171,7 @@ fn answer<W: Write>(alloc: Global, input: Vec<u8>, sink: &mut Sink<W>) -> Result
 /// # Errors
 /// As of `parse`. An input that is no JSON, but a document of several lines with keys after it, isn't one line.
 fn parse_whole(alloc: Global, input: &[u8]) -> Result<Document, RunFault>
-    ensures { MatchResult result (λ document. document_in input.now (Ok (document_of document)))
-        (λ fault. (fault ≡ Memory) ⊎ IsWholeFault input.now fault) }
+    ensures { IsReadOr Memory document_of (whole_in input.now) result }
 {
     match parse(alloc, input) {
         Ok(document) => Ok(document),

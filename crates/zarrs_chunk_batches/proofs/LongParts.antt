@@ -9,7 +9,7 @@ use Rattle.zarrs_chunk_base.specs.ArraySubset.{Box, IsBox, IsEmptyBox}
 use Rattle.zarrs_chunk_base.specs.Dimension.{Dimension, Holds, IsChain}
 use Rattle.zarrs_chunks.specs.Subsets.{IsCover}
 use Rattle.zarrs_chunks.specs.Walks.{chunks_in}
-use Rattle.zarrs_chunk_plan.proofs.Plans.{covered_meet}
+use Rattle.zarrs_chunk_plan.proofs.Plans.{covers_any, meet_each}
 use Rattle.zarrs_chunk_parts.specs.Plan.{IsPart, Meets}
 use Rattle.zarrs_chunk_parts.specs.declared.part.Part.{Part}
 use Rattle.zarrs_chunk_plan.specs.declared.read.numbered_parts.SomeParts.{SomeParts}
@@ -59,6 +59,6 @@ module _ (ds : List Dimension) (IsKey : List ℕ → List ℕ → Type 0) (b : B
         let if_some : (¬ IsEmptyBox b) ⊎ (length ds ≡ 0) → (length b.start ≡ length ds) × IsCover ds b cover = λ which.
         (long, ⊎_elim is_cover.0 (λ none. is_cover.0 (none_is_not_empty b is_box (omega arith))) which)
         in
-        let meet = covered_meet ds b cover chains is_box (λ empty _. is_cover.1 empty) if_some in
+        let meet = meet_each (covers_any ds b cover chains is_box (λ empty _. is_cover.1 empty) if_some) in
         all_zipped (Meets ds b) (IsPart ds IsKey b) (IsLongPart (length ds)) long_part (take count (drop first (chunks_in cover))) some.parts.items
         (all_taken (Meets ds b) first count (chunks_in cover) meet) are.are_parts

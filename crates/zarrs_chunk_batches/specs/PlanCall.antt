@@ -5,7 +5,7 @@ use Rattle.zarrs_chunk_base.specs.ArraySubset.{Box, IsBox}
 use Rattle.zarrs_chunk_base.specs.Greatest.{greatest}
 use Rattle.zarrs_chunk_base.specs.Grid.{Grid}
 use Rattle.zarrs_chunk_keys.specs.ChunkKey.{Encoding, IsKey}
-use Rattle.zarrs_chunk_questions.specs.AnswerLine.{AsksForItems, IsAnswerTo}
+use Rattle.zarrs_chunk_questions.specs.AnswerLine.{AsksForItems, HasLongAnswer, IsAnswerTo}
 use Rattle.zarrs_chunk_batches.specs.Batch.{AreLengths, IsTooLong, IsWhole}
 use Rattle.zarrs_chunk_batches.specs.Calls.{Call}
 use Rattle.zarrs_chunk_batches.specs.Parts.{IsPlanOf, IsPlanTooLong, IsRoomFor}
@@ -55,6 +55,9 @@ answer_call question line needed = record {
   Misses = λ _. ⊥;
   Says = λ _. Unit {0};
   Fits = λ _. Unit {0};
-  Refuses = λ _ fault. (fault ≡ Short) × (IsTooLong (IsAnswerTo question) line needed ⊎ ((needed ≡ greatest) × AsksForItems question));
+  Refuses = λ _ fault.
+      (fault ≡ Short)
+      × (IsTooLong (IsAnswerTo question) line needed
+      ⊎ ((needed ≡ greatest) × AsksForItems question × HasLongAnswer question (length line)));
   Answers = λ _. IsWhole (IsAnswerTo question) line needed;
 }

@@ -5,7 +5,6 @@ use Rattle.std.specs.List.{AllZip}
 use Rattle.zarrs_chunk_base.specs.ArraySubset.{Box, IsBox, IsInside}
 use Rattle.zarrs_chunk_base.specs.Dimension.{Dimension, InBox, IsOrigin, IsShape, array_sizes}
 use Rattle.zarrs_chunk_axes.specs.InBounds.{AreBelow}
-use Rattle.zarrs_chunks.specs.Subsets.{IsCover}
 use Rattle.zarrs_chunks.specs.Walks.{chunks_in, counted_from}
 use Rattle.zarrs_chunk_parts.specs.declared.part.Part.{Part}
 
@@ -46,10 +45,16 @@ pub record IsPart (ds : List Dimension) (IsKey : List ℕ → List ℕ → Type 
   pub whole : IsTrue part.whole ↔ HasAllOf ds subset chunk
   pub boxes : AreShared ds subset chunk part.in_chunk part.in_subset
 
+-- The box of chunk numbers covers a box of elements: inside are exactly the chunks that hold some of them, and each of them lies in a chunk.
+pub record Covers (ds : List Dimension) (subset cover : Box) : Type 0 where
+  pub is_box : IsBox cover
+  pub named : (chunk : List ℕ) → IsInside cover chunk ↔ Meets ds subset chunk
+  pub homes : (index : List ℕ) → IsInside subset index → (chunk : List ℕ) × InBox ds chunk index
+
 -- the plan: a part for each chunk of the cover, in row-major order of the chunks
 pub record IsPlan (ds : List Dimension) (IsKey : List ℕ → List ℕ → Type 0) (subset : Box) (parts : List Part) : Type 0 where
   pub cover : Box
-  pub is_cover : IsCover ds subset cover
+  pub is_cover : Covers ds subset cover
   pub are_parts : AllZip (IsPart ds IsKey subset) (chunks_in cover) parts
 
 -- The part has the element at an index, and its place in the chunk: both lie as far behind the first of the part's box.

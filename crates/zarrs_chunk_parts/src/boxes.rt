@@ -1,7 +1,7 @@
 //! What two boxes have in common.
 ghost use Rattle.std.specs.Prelude.{◌≡◌, ◌↔◌, ℕ, IfOk, List, length};
 ghost use Rattle.zarrs_chunk_base.specs.ArraySubset.{IsBox, IsInside};
-ghost use Rattle.zarrs_chunk_parts.specs.seen.Shared.{later_starts};
+ghost use Rattle.zarrs_chunk_parts.specs.seen.Shared.{later_starts, shared_sizes};
 
 use crate::shared::{box_of, sizes_shared};
 use std::alloc::{AllocError, Global};
@@ -20,6 +20,8 @@ pub fn overlap(
     ensures is_box { IfOk result (λ both. IsBox both) }
     ensures start { IfOk result (λ both. both.start
         ≡ later_starts one.now.start other.now.start) }
+    ensures shape { IfOk result (λ both. both.shape
+        ≡ shared_sizes one.now.start one.now.shape other.now.start other.now.shape) }
     ensures common { IfOk result (λ both. (index : List ℕ)
         → IsInside both index ↔ (IsInside one.now index × IsInside other.now index)) }
 {

@@ -1,18 +1,13 @@
 -- The cover of a box, which may be empty.
 use Rattle.zarrs_chunk_plan.proofs.Common.{◌≡◌, ◌≢◌, ◌↔◌, ◌⊎◌, ◌∙◌, ℕ, zero, suc, ◌+◌, ◌<◌, ◌≤◌, List, [], ◌∷◌, Some, Ok, length, replicate, ap, ap₂}
 use Rattle.zarrs_chunk_plan.proofs.Common.{refl, subst, inl, ⊎_elim, arith, sym, cases_lt, length-map, length-replicate, AllByRecursion, AllZip}
-use Rattle.zarrs_chunk_plan.proofs.Common.{AreWithin, Box, IsBox, IsEmptyBox, IsInside, zero_box, Dimension, Holds, InBox, IsChain, array_sizes}
-use Rattle.zarrs_chunk_plan.proofs.Common.{AreBelow, earlier_has, cover_meets, Meets, array_box, UsesFirst}
+use Rattle.zarrs_chunk_plan.proofs.Common.{AreWithin, Box, IsBox, IsEmptyBox, IsInside, Dimension, Holds, InBox, IsChain, array_sizes}
+use Rattle.zarrs_chunk_plan.proofs.Common.{AreBelow, earlier_has, Meets, array_box, UsesFirst}
 use Rattle.zarrs_chunk_base.proofs.InEach.{length_numbers}
 use Rattle.zarrs_chunks.specs.Subsets.{AnswersCover, AnswersEmptyCover, LookedBox}
 use Rattle.zarrs_chunks.proofs.Chains.{apart}
 use Rattle.zarrs_chunk_plan.proofs.HeldBoxes.{hold_meets, meets_hold, some_chunks, uses_first, uses_none}
-use Rattle.zarrs_chunk_plan.proofs.Plans.{empty_or_some, not_empty_if_inside}
-
-pub none_below : (n : ℕ) → n ≢ 0 → (chunk : List ℕ) → ¬ IsInside (zero_box n) chunk
-none_below zero some chunk inside = some refl
-none_below (suc n) some (c ∷ chunk) inside = let below = inside.1 in absurd (omega arith)
-none_below (suc n) some [] inside = inside
+use Rattle.zarrs_chunk_plan.proofs.Plans.{covers_any, empty_or_some}
 
 -- an array without elements has dimensions
 pub some_dimension : (ds : List Dimension) → IsEmptyBox (array_box ds) → length ds ≢ 0
@@ -31,16 +26,11 @@ module _ (ds : List Dimension) (b : Box) (dimensions : IsEmptyBox b → length d
 
   pub cover_names : (cover : Box) → r ≡ Ok (Some cover) → AllByRecursion IsChain ds → IsBox b
       → (chunk : List ℕ) → IsInside cover chunk ↔ Meets ds b chunk
-  cover_names cover is chains is_box chunk = ⊎_elim of_empty of_some (empty_or_some b.shape) where
-    of_some : (¬ IsEmptyBox b) → IsInside cover chunk ↔ Meets ds b chunk
-    of_some some = cover_meets ds b cover chains is_box some (subst (AnswersCover ds b) is (if_some (inl some))).1 chunk
-
-    of_empty : IsEmptyBox b → IsInside cover chunk ↔ Meets ds b chunk
-    of_empty empty =
-        let same : cover ≡ zero_box (length ds) = subst (AnswersEmptyCover ds) is (if_empty empty (dimensions empty)) in (
-          λ inside. absurd (none_below (length ds) (dimensions empty) chunk (subst (λ z. IsInside z chunk) same inside)),
-          λ (index, box, inside). absurd (not_empty_if_inside _ _ index inside empty),
-        )
+  cover_names cover is chains is_box =
+      let covers = covers_any ds b cover chains is_box (λ empty some. subst (AnswersEmptyCover ds) is (if_empty empty some))
+      (λ some. subst (AnswersCover ds b) is (if_some some))
+      in
+      covers.named
 
 -- what lies in a box that begins at 0 is below its shape
 pub below_from_zero : (n : ℕ) (shape chunk : List ℕ) → length shape ≡ n → AreBelow shape chunk ↔ AreWithin (replicate n 0) shape chunk

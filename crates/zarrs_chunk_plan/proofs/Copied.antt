@@ -1,52 +1,24 @@
 -- A walk over what a rechunking copies, or over what is copied of a region: that it can go on, and what it gives.
-use Rattle.zarrs_chunk_plan.proofs.Common.{◌≡◌, ◌⊎◌, ◌∙◌, ℕ, List, [], ◌∷◌, ◌++◌, Option, Some, None, IfSome, Result, Ok, Err, IfOk, length, map}
-use Rattle.zarrs_chunk_plan.proofs.Common.{append_assoc, append-nil, ap, inl, refl, subst, sym, Drains, AllByRecursion, AllZip, AllocError, Box}
-use Rattle.zarrs_chunk_plan.proofs.Common.{IsBox, IsEmptyBox, Dimension, array_sizes, chunks_in, Meets, Group, AreMovedInto, CanBeMoved, IsCopy}
+use Rattle.zarrs_chunk_plan.proofs.Common.{◌≡◌, ◌∙◌, ℕ, List, [], ◌∷◌, ◌++◌, Option, Some, None, Result, Ok, map}
+use Rattle.zarrs_chunk_plan.proofs.Common.{append_assoc, append-nil, ap, refl, subst, sym, Drains, AllZip, AllocError, Box}
+use Rattle.zarrs_chunk_plan.proofs.Common.{IsBox, Dimension, array_sizes, chunks_in, Group, AreMovedInto, CanBeMoved, IsCopy}
 use Rattle.zarrs_chunk_plan.proofs.Common.{moved, shifted, Part}
 use Rattle.std.specs.Iterator.{Yields}
-use Rattle.zarrs_chunk_base.specs.declared.incompatible_dimensionality_error.IncompatibleDimensionalityError.{IncompatibleDimensionalityError}
-use Rattle.zarrs_chunk_base.specs.declared.refusal.Refusal.{Refusal}
 use Rattle.zarrs_chunk_plan.specs.Rechunking.{AreTargets}
 use Rattle.zarrs_chunk_plan.specs.declared.copy.chunk_copies.ChunkCopies.{ChunkCopies}
 use Rattle.zarrs_chunk_plan.specs.declared.copy.chunk_copies.Copies.{Copies}
 use Rattle.zarrs_chunk_plan.specs.declared.stored_array.StoredArray.{StoredArray}
 use Rattle.zarrs_chunk_plan.specs.declared.read.walk.Parts.{Parts}
-use Rattle.zarrs_chunk_plan.specs.seen.Copies.{AreMovesToCome, CanMove, GivesCopies, HasAllParts, IsAboutCopies, IsPlanned}
+use Rattle.zarrs_chunk_plan.specs.seen.Copies.{AreMovesToCome, CanMove, GivesCopies, HasAllParts, IsAboutCopies}
 use Rattle.zarrs_chunk_plan.specs.seen.Copies.{first_of, region_of, target_of, targets_to_come}
-use Rattle.zarrs_chunk_plan.specs.seen.Parts.{AnswersParts, ArePartsToCome, GivesPart, IsAbout, MeetSubset, all_chunks, chunks_to_come}
-use Rattle.zarrs_chunk_plan.proofs.Plans.{not_empty}
+use Rattle.zarrs_chunk_plan.specs.seen.Parts.{ArePartsToCome, GivesPart, IsAbout, IsPlanned}
 use Rattle.zarrs_chunk_plan.proofs.Walked.{one_came, plan_of}
-
--- what `parts` answers of a box that isn't empty has to give the plan of reading it
-pub planned_of : {G E : Type 0} (dimensions : G → List Dimension) (grid : G) (encoding : E) (b : Box)
-    (r : Result (Option (Parts G E)) (Refusal IncompatibleDimensionalityError)) → (¬ IsEmptyBox b)
-    → ((¬ IsEmptyBox b) ⊎ (length (dimensions grid) ≡ 0) → AnswersParts (dimensions grid) b r)
-    → IfOk r (λ found. IfSome found (IsAbout grid encoding b)) → IfOk r (λ found. IfSome found (MeetSubset dimensions))
-    → IfOk r (λ found. IfSome found (λ walk. all_chunks walk ≡ chunks_to_come walk))
-    → IfOk r (λ found. IfSome found (IsPlanned dimensions grid encoding b))
-planned_of dimensions grid encoding b (Ok (Some walk)) some answers about meet all =
-    let (_, (cover, is, left)) = answers (inl some) in
-    record { about = about; meet = meet; cover = cover; is_cover = is; left = left; all = all ∙ left }
-planned_of dimensions grid encoding b (Ok None) some answers about meet all = tt
-planned_of dimensions grid encoding b (Err e) some answers about meet all = tt
 
 module _ {G E H F : Type 0} (source_dimensions : G → List Dimension) (target_dimensions : H → List Dimension) where
   module _ (target_key : F → List ℕ → List ℕ → Type 0) (before : Copies G E H F) (to : Part) (targets : Parts H F)
       (steps : GivesPart target_dimensions target_key before.targets (Some (Ok to)) targets) where
-    -- the chunk of the part has an element of the box
-    meets : MeetSubset target_dimensions before.targets
-        → Meets (target_dimensions before.targets.grid.now) before.targets.array_subset to.chunk.items
-    meets meet = (subst (AllByRecursion (Meets (target_dimensions before.targets.grid.now) before.targets.array_subset)) steps.gives meet).0
-
-    -- and so the part has one
-    has_some : MeetSubset target_dimensions before.targets → ¬ IsEmptyBox to.in_subset
-    has_some meet = not_empty (steps.part meet) (meets meet)
-
-    abbrev PlansFrom : Parts G E → Box → Type 0
-    PlansFrom from b = IsPlanned source_dimensions before.source.now.grid before.source.now.encoding b from
-
     pub gives_copies : (from : Parts G E)
-        → ((¬ IsEmptyBox to.in_subset) → PlansFrom from (shifted (first_of before) to.in_subset))
+        → IsPlanned source_dimensions before.source.now.grid before.source.now.encoding (shifted (first_of before) to.in_subset) from
         → (after : Copies G E H F) → after.targets ≡ targets → after.source.now ≡ before.source.now → first_of after ≡ first_of before
         → GivesCopies source_dimensions target_dimensions target_key before (Some (Ok (record { to = to; from = from }))) after
     gives_copies from planned after same_targets same_source same_first =
@@ -56,7 +28,7 @@ module _ {G E H F : Type 0} (source_dimensions : G → List Dimension) (target_d
           all = rw same_targets steps.all;
           first = same_first;
           to = λ can. steps.part can.meet;
-          from = λ can. planned (has_some can.meet);
+          from = planned;
           can = λ can. record {
             in_source = rw (same_first, same_source, same_targets, about.same_subset) can.in_source;
             meet = rw same_targets (steps.meet can.meet);
@@ -99,7 +71,7 @@ module _ {G E H F : Type 0} (source_dimensions : G → List Dimension) (source_k
       → MovesHaveCome before groups → GivesGroup before (Some (Ok group)) after
       → ArePartsToCome source_dimensions source_key group.from from → more ≡ groups ++ (group.to, from) ∷ [] → MovesHaveCome after more
   one_more_move before after group from groups more (came, left, are, about, (same_first, can)) gives parts is =
-      let planned = gives.from can in
+      let planned = gives.from in
       let targets = about.targets in
       let read = shifted (first_of before) group.to.in_subset in
       let plan = plan_of source_dimensions source_key before.source.now.grid before.source.now.encoding read planned.cover group.from from

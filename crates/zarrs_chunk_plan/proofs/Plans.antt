@@ -1,14 +1,16 @@
 -- The parts of a plan: which elements they have, and that they differ.
-use Rattle.zarrs_chunk_plan.proofs.Common.{◌≡◌, ◌≢◌, ◌↔◌, ◌⊎◌, ◌∙◌, ℕ, zero, suc, ◌+◌, ◌<◌, ◌≤◌, List, [], ◌∷◌, Contains, get_or, length, refl, ap}
-use Rattle.zarrs_chunk_plan.proofs.Common.{ap₂, subst, sym, inl, inr, ⊎_elim, arith, cases_lt, AllZip-long, AllByRecursion, AllPairs, AllZip}
+use Rattle.zarrs_chunk_plan.proofs.Common.{◌≡◌, ◌≢◌, ◌↔◌, ◌⊎◌, ◌∙◌, ℕ, zero, suc, ◌+◌, ◌<◌, List, [], ◌∷◌, Contains, get_or, length, refl, ap}
+use Rattle.zarrs_chunk_plan.proofs.Common.{ap₂, subst, sym, inl, inr, ⊎_elim, arith, AllZip-long, AllByRecursion, AllPairs, AllZip}
 use Rattle.zarrs_chunk_plan.proofs.Common.{AreWithin, Box, IsBox, IsEmptyBox, IsInside, zero_box, Dimension, Holds, InBox, IsChain, IsPlace, AllFit}
 use Rattle.zarrs_chunk_plan.proofs.Common.{within_lengths, length_values, AreBelow, row_major, IsCover, chunks_in, counted_from, same_box}
 use Rattle.zarrs_chunk_plan.proofs.Common.{are_those_inside, chunks_once, inside_fits, length_below, lie_within, offset_of, cover_meets, HasElement}
 use Rattle.zarrs_chunk_plan.proofs.Common.{IsCommon, IsPart, IsPlan, Meets, Part}
 use Rattle.zarrs_chunk_base.specs.Dimension.{IsOrigin}
+use Rattle.zarrs_chunk_base.proofs.Boxes.{zero_is_box}
 use Rattle.zarrs_chunk_base.proofs.FirstMembers.{contained}
 use Rattle.zarrs_chunks.proofs.Covers.{none_is_not_empty}
 use Rattle.zarrs_chunks.proofs.Meeting.{cover_holds}
+use Rattle.zarrs_chunk_parts.specs.Plan.{Covers}
 
 -- ---- the chunks of a plan
 
@@ -30,29 +32,53 @@ module _ {X : Type 0} where
   all_of_each P [] each = tt
   all_of_each P (x ∷ xs) each = (each x (zero, omega arith, refl), all_of_each P xs (λ y (k, within, is). each y (suc k, omega arith, is)))
 
--- each chunk of the cover that was found holds some element of the box
-pub covered_meet : (ds : List Dimension) (b cover : Box) → AllByRecursion IsChain ds → IsBox b
-    → (IsEmptyBox b → length ds ≢ 0 → cover ≡ zero_box (length ds))
-    → ((¬ IsEmptyBox b) ⊎ (length ds ≡ 0) → (length b.start ≡ length ds) × IsCover ds b cover)
-    → AllByRecursion (Meets ds b) (chunks_in cover)
-covered_meet ds b cover chains is_box if_empty if_some = ⊎_elim of_empty of_some (empty_or_some b.shape) where
-  of_some : (¬ IsEmptyBox b) → AllByRecursion (Meets ds b) (chunks_in cover)
-  of_some some =
-      let is = (if_some (inl some)).1 in
-      all_of_each (Meets ds b) (chunks_in cover)
-      (λ chunk has. (cover_meets ds b cover chains is_box some is chunk).0 ((are_those_inside cover is.is_box chunk).0 has))
+pub none_below : (n : ℕ) → n ≢ 0 → (chunk : List ℕ) → ¬ IsInside (zero_box n) chunk
+none_below zero some chunk inside = some refl
+none_below (suc n) some (c ∷ chunk) inside = let below = inside.1 in absurd (omega arith)
+none_below (suc n) some [] inside = inside
 
-  of_empty : IsEmptyBox b → AllByRecursion (Meets ds b) (chunks_in cover)
-  of_empty empty =
-      ⊎_elim
-      (λ (some : 0 < length ds).
-      let none : length ds ≢ 0 = λ same. absurd (omega arith) in
-      subst (AllByRecursion (Meets ds b)) (sym (ap chunks_in (if_empty empty none) ∙ none_in_zeros (length ds) none)) tt)
-      (λ (le : length ds ≤ 0).
-      let none : length ds ≡ 0 = omega arith in
-      let same = (if_some (inr none)).0 in
-      absurd (none_is_not_empty b is_box (omega arith) empty))
-      (cases_lt 0 (length ds))
+-- a list that has something below it in each place has no 0
+pub not_empty_if_inside : (start shape index : List ℕ) → AreWithin start shape index → ¬ Contains shape 0
+not_empty_if_inside [] [] [] within (k, counted, is) = absurd (omega arith)
+not_empty_if_inside (s ∷ start) (n ∷ shape) (i ∷ index) within (zero, counted, is) =
+    absurd (omega arith)
+not_empty_if_inside (s ∷ start) (n ∷ shape) (i ∷ index) within (suc k, counted, is) =
+    not_empty_if_inside start shape index within.2 (k, omega arith, is)
+not_empty_if_inside _ _ _ within h = absurd within
+
+-- each chunk of a cover holds some element of the box
+pub meet_each : {ds : List Dimension} {b cover : Box} → Covers ds b cover → AllByRecursion (Meets ds b) (chunks_in cover)
+meet_each {ds} {b} {cover} covers =
+    all_of_each (Meets ds b) (chunks_in cover) (λ chunk has. (covers.named chunk).0 ((are_those_inside cover covers.is_box chunk).0 has))
+
+pub covers_some : (ds : List Dimension) (b cover : Box) → AllByRecursion IsChain ds → IsBox b → (¬ IsEmptyBox b) → IsCover ds b cover
+    → Covers ds b cover
+covers_some ds b cover chains is_box some is = record {
+  is_box = is.is_box;
+  named = cover_meets ds b cover chains is_box some is;
+  homes = λ index inside. let (chunk, _, box) = cover_holds ds b cover chains is_box is index inside in (chunk, box);
+}
+
+pub covers_none : (ds : List Dimension) (b : Box) (n : ℕ) → n ≢ 0 → IsEmptyBox b → Covers ds b (zero_box n)
+covers_none ds b n some empty = record {
+  is_box = zero_is_box n;
+  named = λ chunk. (
+    λ inside. absurd (none_below n some chunk inside),
+    λ (index, _, inside). absurd (not_empty_if_inside b.start b.shape index inside empty),
+  );
+  homes = λ index inside. absurd (not_empty_if_inside b.start b.shape index inside empty);
+}
+
+-- what is found of any box covers it
+pub covers_any : (ds : List Dimension) (b cover : Box) → AllByRecursion IsChain ds → IsBox b
+    → (IsEmptyBox b → length ds ≢ 0 → cover ≡ zero_box (length ds))
+    → ((¬ IsEmptyBox b) ⊎ (length ds ≡ 0) → (length b.start ≡ length ds) × IsCover ds b cover) → Covers ds b cover
+covers_any [] b cover chains is_box if_empty if_some =
+    let (same, is) = if_some (inr refl) in covers_some [] b cover chains is_box (none_is_not_empty b is_box same) is
+covers_any (d ∷ ds) b cover chains is_box if_empty if_some =
+    let some : length (d ∷ ds) ≢ 0 = λ none. absurd (omega arith) in
+    ⊎_elim (λ empty. subst (Covers (d ∷ ds) b) (sym (if_empty empty some)) (covers_none (d ∷ ds) b (length (d ∷ ds)) some empty))
+    (λ filled. covers_some (d ∷ ds) b cover chains is_box filled (if_some (inl filled)).1) (empty_or_some b.shape)
 
 -- ---- numbers counted from starts
 
@@ -88,15 +114,6 @@ pub within_sizes : (start shape index : List ℕ) → AreWithin start shape inde
 within_sizes [] [] [] within = refl
 within_sizes (s ∷ start) (n ∷ shape) (i ∷ index) within = ap suc (within_sizes start shape index within.2)
 within_sizes _ _ _ within = absurd within
-
--- a list that has something below it in each place has no 0
-pub not_empty_if_inside : (start shape index : List ℕ) → AreWithin start shape index → ¬ Contains shape 0
-not_empty_if_inside [] [] [] within (k, counted, is) = absurd (omega arith)
-not_empty_if_inside (s ∷ start) (n ∷ shape) (i ∷ index) within (zero, counted, is) =
-    absurd (omega arith)
-not_empty_if_inside (s ∷ start) (n ∷ shape) (i ∷ index) within (suc k, counted, is) =
-    not_empty_if_inside start shape index within.2 (k, omega arith, is)
-not_empty_if_inside _ _ _ within h = absurd within
 
 -- ---- one part
 
@@ -257,11 +274,11 @@ module _ {ds : List Dimension} {IsKey : List ℕ → List ℕ → Type 0} {b : B
   each_two Q = pairs_of (IsPart ds IsKey b) Q (chunks_in plan.cover) parts plan.are_parts (chunks_once plan.cover plan.is_cover.is_box)
 
   -- each element of the box lies in some part
-  pub some_part : AllByRecursion IsChain ds → IsBox b → (index : List ℕ) → IsInside b index
+  pub some_part : (index : List ℕ) → IsInside b index
       → (part : Part) × Contains parts part × ((place : List ℕ) × HasElement b part index place)
-  some_part chains is_box index inside =
-      let (chunk, within, box) = cover_holds ds b plan.cover chains is_box plan.is_cover index inside in
-      let (part, among, is) = part_of chunk within in
+  some_part index inside =
+      let (chunk, box) = plan.is_cover.homes index inside in
+      let (part, among, is) = part_of chunk ((plan.is_cover.named chunk).1 (index, box, inside)) in
       (part, among, takes is index (box, inside))
 
   -- and in no other
@@ -286,18 +303,18 @@ module _ {ds : List Dimension} {IsKey : List ℕ → List ℕ → Type 0} {b : B
       (λ one other part next among also differ is is_other same.
       differ (one_chunk exact plan.cover plan.is_cover.is_box one other part next among also is is_other same))
 
-  pub tiles_all : AllByRecursion IsChain ds → IsBox b → (place : List ℕ)
+  pub tiles_all : length b.start ≡ length b.shape → (place : List ℕ)
       → AreBelow b.shape place ↔ ((part : Part) × Contains parts part × IsInside part.in_subset place)
-  tiles_all chains is_box place = (find, λ (part, among, inside). let (_, _, is) = chunk_of part among in place_below is place inside) where
+  tiles_all lengths place = (find, λ (part, among, inside). let (_, _, is) = chunk_of part among in place_below is place inside) where
     find : AreBelow b.shape place → (part : Part) × Contains parts part × IsInside part.in_subset place
     find below =
         let index = counted_from b.start place in
-        let (part, among, (at, has)) = some_part chains is_box index (lie_within b.start b.shape place is_box.lengths below) in
+        let (part, among, (at, has)) = some_part index (lie_within b.start b.shape place lengths below) in
         let (chunk, _, is) = chunk_of part among in
         let boxes = is.boxes in
         let long = all_long is index (has_common is has) in
         let steps_many = length_below part.in_chunk.shape has.steps has.below in
-        let place_many = length_below b.shape place below ∙ sym is_box.lengths in
+        let place_many = length_below b.shape place below ∙ sym lengths in
         let counted = counted_from part.in_subset.start has.steps in
         let counted_many = length_counted part.in_subset.start has.steps (omega arith) in
         let same : place ≡ counted = counted_once b.start place counted place_many (omega arith) has.index_is in
@@ -312,9 +329,8 @@ module _ {ds : List Dimension} {IsKey : List ℕ → List ℕ → Type 0} {b : B
       (λ one other part next _ _ differ is is_other place inside also.
       differ (same_box _ _ _ _ chains (has_common is (has_at is place inside).1).0 (has_common is_other (has_at is_other place also).1).0))
 
-  -- no part of a box that isn't empty is empty
-  pub none_empty : AllByRecursion IsChain ds → IsBox b → (¬ IsEmptyBox b) → (part : Part) → Contains parts part → ¬ IsEmptyBox part.in_subset
-  none_empty chains is_box some part among =
+  -- no part is empty
+  pub none_empty : (part : Part) → Contains parts part → ¬ IsEmptyBox part.in_subset
+  none_empty part among =
       let (chunk, has, is) = chunk_of part among in
-      let inside = (are_those_inside plan.cover plan.is_cover.is_box chunk).0 has in
-      not_empty is ((cover_meets ds b plan.cover chains is_box some plan.is_cover chunk).0 inside)
+      not_empty is ((plan.is_cover.named chunk).0 ((are_those_inside plan.cover plan.is_cover.is_box chunk).0 has))

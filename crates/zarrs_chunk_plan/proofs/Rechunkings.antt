@@ -1,15 +1,12 @@
--- The copies of a rechunking, which are copies of the whole array: which elements they move, and that they differ.
-use Rattle.zarrs_chunk_plan.proofs.Common.{◌≡◌, ◌↔◌, ◌∙◌, ℕ, zero, suc, ◌+◌, List, [], ◌∷◌, Contains, length, map, replicate, refl, ap, ap₂, subst}
-use Rattle.zarrs_chunk_plan.proofs.Common.{sym, arith, length-map, length-replicate, AllByRecursion, AllPairs, AllZip, flat_map, AreWithin, Box}
-use Rattle.zarrs_chunk_plan.proofs.Common.{IsBox, IsInside, Dimension, Holds, InBox, IsChain, array_sizes, within_lengths, length_values, AreBelow}
+-- The whole array, which a rechunking copies to where it is.
+use Rattle.zarrs_chunk_plan.proofs.Common.{◌≡◌, ◌↔◌, ◌∙◌, ℕ, zero, suc, ◌+◌, List, [], ◌∷◌, length, map, replicate, refl, ap, ap₂, subst}
+use Rattle.zarrs_chunk_plan.proofs.Common.{sym, arith, length-map, AllByRecursion, AreWithin, Box}
+use Rattle.zarrs_chunk_plan.proofs.Common.{IsInside, Dimension, Holds, IsChain, array_sizes, within_lengths, length_values, AreBelow}
 use Rattle.zarrs_chunk_plan.proofs.Common.{counted_from, same_box, length_below, counted_home, IsCommon, IsPart, IsPlan, Meets, AreCopiesInto, Group}
-use Rattle.zarrs_chunk_plan.proofs.Common.{IsRechunking, all_chunks_box, array_box, copies_of, IsCopy, MovesTo, shifted, Part}
+use Rattle.zarrs_chunk_plan.proofs.Common.{all_chunks_box, array_box, shifted, Part}
 use Rattle.zarrs_chunk_parts.specs.Plan.{AreShared}
-use Rattle.zarrs_chunk_plan.specs.Rechunking.{Moves, ShareOut}
-use Rattle.zarrs_chunk_plan.proofs.copy.CopyLists.{pairs_follow}
-use Rattle.zarrs_chunk_plan.proofs.copy.Joined.{in_joined, pairs_joined}
-use Rattle.zarrs_chunk_plan.proofs.Plans.{all_long, pair_of, pairs_by, source_of}
-use Rattle.zarrs_chunk_plan.proofs.copy.Regions.{has_keys, moves_region, no_other_to, some_copy, is_copy_of}
+use Rattle.zarrs_chunk_plan.specs.Region.{IsDestination}
+use Rattle.zarrs_chunk_plan.proofs.Plans.{all_long}
 
 -- ---- the whole array
 
@@ -86,104 +83,15 @@ pub read_there : {source : List Dimension} {IsSourceKey : List ℕ → List ℕ 
     → Meets target (array_box target) chunk → IsPlan source IsSourceKey group.0.in_subset group.1
 read_there {source} {IsSourceKey} {group} into meets = subst (λ b. IsPlan source IsSourceKey b group.1) (from_there into.to meets) into.from
 
--- ---- the copies
-
--- no element is moved by both
-abbrev Apart : (source target : List Dimension) → Part × Part → Part × Part → Type 0
-Apart source target copy other = (steps also index : List ℕ) → Moves source target copy steps index → Moves source target other also index → ⊥
-
-zeros_long : (ds : List Dimension) → length (array_box ds).start ≡ length (array_box ds).shape
-zeros_long ds = length-replicate (length ds) 0 ∙ sym (length-map ds (λ (d : Dimension). d.array_size))
-
--- the chunk of the target that a copy goes into, which is one of those that were chosen, and the copy's part of it
-pub record IsInto (target : List Dimension) (IsTargetKey : List ℕ → List ℕ → Type 0) (Chosen : List ℕ → Type 0) (copy : Part × Part) : Type 0 where
-  pub chunk : List ℕ
-  pub inside : Chosen chunk
-  pub meets : Meets target (array_box target) chunk
-  pub to : IsPart target IsTargetKey (array_box target) chunk copy.1
-
-module _ {source : List Dimension} {IsSourceKey : List ℕ → List ℕ → Type 0} {target : List Dimension} {IsTargetKey : List ℕ → List ℕ → Type 0}
-    {Chosen : List ℕ → Type 0} {groups : List Group}
-    (plan : IsCopy source IsSourceKey target IsTargetKey (array_box target) (array_box target).start Chosen groups) where
-  pub goes_into : (copy : Part × Part) → Contains (copies_of groups) copy → IsInto target IsTargetKey Chosen copy
-  goes_into copy among =
-      let of = is_copy_of plan copy among in
-      let (inside, meets) = (plan.are_targets of.chunk).0 of.inside in
-      record { chunk = of.chunk; inside = inside; meets = meets; to = of.to }
-
-  -- each element whose chunk is chosen is moved by some copy
-  pub some_copy_into : AllByRecursion IsChain source → (index chunk : List ℕ) → AreBelow (array_sizes target) index
-      → InBox target chunk index → Chosen chunk
-      → (copy : Part × Part) × Contains (copies_of groups) copy × ((steps : List ℕ) × Moves source target copy steps index)
-  some_copy_into chains index chunk below box inside =
-      let same = same_place target index below in
-      let within = (plan.are_targets chunk).1 (inside, (index, box, (in_array target index).0 below)) in
-      let (copy, among, (steps, moves)) = some_copy plan chains (zeros_long target)
-      (λ chunk to is meets. subst IsBox (sym (from_there is meets)) is.boxes.from_subset.is_box) index chunk below within
-      (subst (InBox target chunk) (sym same) box)
-      in
-      (copy, among, (steps, subst (λ x. MovesTo source target copy steps x x) same moves))
-
-  -- no element is moved by two
-  pub no_other_copy : AllByRecursion IsChain source → AllByRecursion IsChain target → AllPairs (Apart source target) (copies_of groups)
-  no_other_copy chains also_chains =
-      pairs_follow
-      (λ copy other. (steps also index next to : List ℕ) → MovesTo source target copy steps index to → MovesTo source target other also next to → ⊥)
-      (Apart source target) (copies_of groups) (no_other_to plan chains also_chains (zeros_long target) (zeros_long target))
-      (λ copy other _ _ apart steps also index moved again. apart steps also index index index moved again)
-
-  -- each place of a copy is that of an element of the array
-  pub moves_elements : (copy : Part × Part) → Contains (copies_of groups) copy → (steps : List ℕ) → AreBelow copy.0.in_chunk.shape steps
-      → (index : List ℕ) × AreBelow (array_sizes target) index × Moves source target copy steps index
-  moves_elements copy among steps below =
-      let (index, in_array, moves) = moves_region plan copy among steps below in
-      (index, in_array, subst (λ x. MovesTo source target copy steps x x) (same_place target index in_array) moves)
-
-  -- under the keys of its chunks, of which that of the target is a chosen one
-  pub keys_of_copy : (copy : Part × Part) → Contains (copies_of groups) copy
-      → IsSourceKey copy.0.chunk.items copy.0.key × IsTargetKey copy.1.chunk.items copy.1.key × Chosen copy.1.chunk.items
-  keys_of_copy copy among =
-      let (key, also) = has_keys plan copy among in
-      let into = goes_into copy among in
-      (key, also, subst Chosen (sym into.to.numbers) into.inside)
-
--- ---- rechunkings that share the target's chunks out
-
-module _ {source : List Dimension} (IsSourceKey : List ℕ → List ℕ → Type 0) {target : List Dimension} (IsTargetKey : List ℕ → List ℕ → Type 0)
-    (chains : AllByRecursion IsChain source) (also_chains : AllByRecursion IsChain target) (boxes : List Box) (plans : List (List Group))
-    (shared : ShareOut target boxes) (zipped : AllZip (IsRechunking source IsSourceKey target IsTargetKey) boxes plans) where
-  -- each element of the array is moved by some copy of one of them
-  pub some_copy_of_all : (index : List ℕ) → AreBelow (array_sizes target) index
-      → (copy : Part × Part) × Contains (flat_map copies_of plans) copy × ((steps : List ℕ) × Moves source target copy steps index)
-  some_copy_of_all index below =
-      let (chunk, _, box) = counted_home target index also_chains below in
-      let (b, in_boxes, inside) = shared.all chunk (index, box, (in_array target index).0 below) in
-      let (groups, in_plans, plan) = pair_of (IsRechunking source IsSourceKey target IsTargetKey) boxes plans zipped b in_boxes in
-      let (copy, among, moved) = some_copy_into plan chains index chunk below box inside in
-      (copy, in_joined copies_of plans groups copy in_plans among, moved)
-
-  -- and by no other
-  pub no_other_copy_of_all : AllPairs (Apart source target) (flat_map copies_of plans)
-  no_other_copy_of_all =
-      pairs_joined copies_of (Apart source target) plans
-      (λ groups among.
-      let (b, _, plan) = source_of (IsRechunking source IsSourceKey target IsTargetKey) boxes plans zipped groups among in
-      no_other_copy plan chains also_chains)
-      (pairs_by (IsRechunking source IsSourceKey target IsTargetKey)
-      (λ b other. (chunk : List ℕ) → Meets target (array_box target) chunk → IsInside b chunk → IsInside other chunk → ⊥)
-      (λ one other. (copy next : Part × Part) → Contains (copies_of one) copy → Contains (copies_of other) next → Apart source target copy next) boxes
-      plans zipped shared.apart across)
-    where
-      across : (b other : Box) (groups more : List Group) → Contains boxes b → Contains boxes other
-          → ((chunk : List ℕ) → Meets target (array_box target) chunk → IsInside b chunk → IsInside other chunk → ⊥)
-          → IsRechunking source IsSourceKey target IsTargetKey b groups → IsRechunking source IsSourceKey target IsTargetKey other more
-          → (copy next : Part × Part) → Contains (copies_of groups) copy → Contains (copies_of more) next → Apart source target copy next
-      across b other groups more _ _ apart plan also_plan copy next among also_among steps also index moved again =
-          let of = goes_into plan copy among in
-          let next_of = goes_into also_plan next also_among in
-          let numbers : copy.1.chunk.items ≡ of.chunk = of.to.numbers in
-          let next_numbers : next.1.chunk.items ≡ next_of.chunk = next_of.to.numbers in
-          let same : of.chunk ≡ next_of.chunk =
-          sym numbers ∙ same_box target copy.1.chunk.items next.1.chunk.items index also_chains moved.in_target again.in_target ∙ next_numbers
-          in
-          apart next_of.chunk next_of.meets (subst (IsInside b) same of.inside) next_of.inside
+-- an element of the whole array goes to where it is
+pub at_home : (ds : List Dimension) (index to : List ℕ) → IsDestination (array_box ds) (array_box ds).start index to
+    ↔ (AreBelow (array_sizes ds) index × (index ≡ to))
+at_home ds index to = (
+  λ there.
+      let here = same_place ds there.behind there.below in
+      let is = there.from ∙ here in
+      (subst (AreBelow (array_sizes ds)) (sym is) there.below, is ∙ sym (there.into ∙ here)),
+  λ (below, same).
+      let here = same_place ds index below in
+      record { behind = index; below = below; from = sym here; into = sym same ∙ sym here },
+)

@@ -1,13 +1,15 @@
--- Where each chunk has a key, each box of elements of the array has a plan: the parts ahead of a walk exist.
-use Rattle.zarrs_chunk_plan.proofs.Common.{◌≡◌, ◌∙◌, ℕ, suc, ◌+◌, ◌-◌, ◌<◌, ◌≤◌, List, [], ◌∷◌, ap, ap₂, length, map, refl, sym, arith}
-use Rattle.zarrs_chunk_plan.proofs.Common.{AllByRecursion, AllZip, Box, IsBox, IsEmptyBox, IsInside, ends, lasts, Dimension, Holds, InBox, IsChain}
+-- Where each chunk has a key, each box of elements of the array has a plan: the parts ahead of a walk exist. An empty box has the plan of no parts.
+use Rattle.zarrs_chunk_plan.proofs.Common.{◌≡◌, ◌≢◌, ◌∙◌, ℕ, suc, ◌+◌, ◌-◌, ◌<◌, ◌≤◌, List, [], ◌∷◌, ap, ap₂, length, map, refl, subst, sym, ⊎_elim, arith}
+use Rattle.zarrs_chunk_plan.proofs.Common.{AllByRecursion, AllZip, Box, IsBox, IsEmptyBox, IsInside, zero_box, ends, lasts, Dimension, Holds, InBox, IsChain}
 use Rattle.zarrs_chunk_plan.proofs.Common.{IsShape, array_sizes, AllFit, greatest, AreBelow, IsCover, chunks_in, are_those_inside, inside_fits}
 use Rattle.zarrs_chunk_plan.proofs.Common.{counted_home, cover_meets, IsPart, IsPlan, Meets, Part, HasKeys}
 use Rattle.zarrs_chunk_base.proofs.InEach.{by_dimension}
 use Rattle.zarrs_chunks.proofs.Boxes.{has_origin}
 use Rattle.zarrs_chunks.proofs.Covers.{chunks_small, firsts_before_lasts, in_order, is_cover, lasts_small}
 use Rattle.zarrs_chunks.proofs.UpTo.{ones_fit}
-use Rattle.zarrs_chunk_plan.proofs.Plans.{all_of_each}
+use Rattle.zarrs_chunk_plan.proofs.Plans.{chunk_of, covers_none, covers_some, empty_or_some, meet_each, none_in_zeros, not_empty_if_inside}
+use Rattle.zarrs_chunk_plan.proofs.SameBoxes.{same_box_of}
+use Rattle.zarrs_chunk_parts.specs.Plan.{Covers}
 use Rattle.zarrs_chunk_plan.proofs.counts.Written.{first_within, last_within}
 use Rattle.zarrs_chunk_parts.proofs.Shares.{boxes_are, from_chunk, from_start, has_all_of}
 use Rattle.zarrs_chunk_parts.proofs.Wholes.{test_rest}
@@ -38,19 +40,46 @@ sizes_between (f ∷ first) (l ∷ last) order =
 sizes_between _ _ order = absurd order
 
 pub has_cover : (ds : List Dimension) → AllByRecursion IsChain ds → (b : Box) → IsBox b → (¬ IsEmptyBox b)
-    → ((index : List ℕ) → IsInside b index → AreBelow (array_sizes ds) index) → (cover : Box) × IsCover ds b cover
-has_cover ds chains b is_box some within =
+    → ((index : List ℕ) → IsInside b index → (chunk : List ℕ) × InBox ds chunk index) → (cover : Box) × IsCover ds b cover
+has_cover ds chains b is_box some homes =
     let end = lasts b.start b.shape in
     let inside = first_within b.start b.shape is_box.lengths some in
     let also = last_within b.start b.shape is_box.lengths some in
-    let (first, _, in_first) = counted_home ds b.start chains (within b.start inside) in
-    let (last, _, in_last) = counted_home ds end chains (within end also) in
+    let (first, in_first) = homes b.start inside in
+    let (last, in_last) = homes end also in
     let order = in_order ds first last b.start end chains (firsts_before_lasts b.start b.shape is_box.lengths) in_first in_last in
     let end_small = lasts_small b.start b.shape is_box.lengths is_box.fits some in
     let small = chunks_small (λ n. n < greatest) (λ m n low below. omega arith) ds last end chains in_last end_small in
     let (sizes, lengths, same) = sizes_between first last order in
     let cover : Box = record { start = first; shape = sizes } in
     (cover, is_cover ds b cover first last (record { lengths = lengths; fits = rw same (ones_fit last small) }) refl same order in_first in_last)
+
+-- the indices of an array have homes
+pub array_homes : (ds : List Dimension) → AllByRecursion IsChain ds → (b : Box)
+    → ((index : List ℕ) → IsInside b index → AreBelow (array_sizes ds) index) → (index : List ℕ) → IsInside b index
+    → (chunk : List ℕ) × InBox ds chunk index
+array_homes ds chains b within index inside = let (chunk, _, box) = counted_home ds index chains (within index inside) in (chunk, box)
+
+-- a box whose elements have homes has a cover, also an empty one
+pub covers_all : (ds : List Dimension) → AllByRecursion IsChain ds → (b : Box) → IsBox b
+    → ((index : List ℕ) → IsInside b index → (chunk : List ℕ) × InBox ds chunk index) → (cover : Box) × Covers ds b cover
+covers_all ds chains b is_box homes =
+    ⊎_elim
+    (λ empty.
+    let (k, counted, _) = empty in
+    (zero_box (length b.shape), covers_none ds b (length b.shape) (λ none. absurd (omega arith)) empty))
+    (λ some. let (cover, is) = has_cover ds chains b is_box some homes in (cover, covers_some ds b cover chains is_box some is))
+    (empty_or_some b.shape)
+
+-- what covers a box that isn't empty goes from the chunk of its first element to that of its last
+pub is_cover_of : (ds : List Dimension) → AllByRecursion IsChain ds → (b cover : Box) → IsBox b → (¬ IsEmptyBox b) → Covers ds b cover
+    → IsCover ds b cover
+is_cover_of ds chains b cover is_box some covers =
+    let (other, is) = has_cover ds chains b is_box some covers.homes in
+    let named = cover_meets ds b other chains is_box some is in
+    subst (IsCover ds b)
+    (same_box_of other cover other.start (first_within other.start other.shape is.is_box.lengths is.some)
+    (λ chunk. (λ inside. (covers.named chunk).1 ((named chunk).0 inside), λ inside. (named chunk).1 ((covers.named chunk).0 inside)))) is
 
 -- ---- the parts
 
@@ -95,14 +124,31 @@ module _ (ds : List Dimension) (IsKey : List ℕ → List ℕ → Type 0) (chain
   have_parts b is_box = each_has (Meets ds b) (IsPart ds IsKey b) (has_part b is_box)
 
   -- over a cover there is a plan
-  pub plan_over : (b cover : Box) → IsBox b → (¬ IsEmptyBox b) → IsCover ds b cover → (parts : List Part) × IsPlan ds IsKey b parts
-  plan_over b cover is_box some is =
-      let meet = all_of_each (Meets ds b) (chunks_in cover)
-      (λ chunk has. (cover_meets ds b cover chains is_box some is chunk).0 ((are_those_inside cover is.is_box chunk).0 has))
-      in
-      let (parts, are) = have_parts b is_box (chunks_in cover) meet in
-      (parts, record { cover = cover; is_cover = is; are_parts = are })
+  pub plan_over : (b cover : Box) → IsBox b → Covers ds b cover → (parts : List Part) × IsPlan ds IsKey b parts
+  plan_over b cover is_box is =
+      let (parts, are) = have_parts b is_box (chunks_in cover) (meet_each is) in (parts, record { cover = cover; is_cover = is; are_parts = are })
 
-  pub has_plan : (b : Box) → IsBox b → (¬ IsEmptyBox b) → ((index : List ℕ) → IsInside b index → AreBelow (array_sizes ds) index)
+  pub has_plan : (b : Box) → IsBox b → ((index : List ℕ) → IsInside b index → AreBelow (array_sizes ds) index)
       → (parts : List Part) × IsPlan ds IsKey b parts
-  has_plan b is_box some within = let (cover, is) = has_cover ds chains b is_box some within in plan_over b cover is_box some is
+  has_plan b is_box within =
+      let (cover, is) = covers_all ds chains b is_box (array_homes ds chains b within) in plan_over b cover is_box is
+
+-- ---- an empty box
+
+pub no_plan : (ds : List Dimension) (IsKey : List ℕ → List ℕ → Type 0) (b : Box) (parts : List Part) → IsEmptyBox b → IsPlan ds IsKey b parts
+    → parts ≡ []
+no_plan ds IsKey b [] empty plan = refl
+no_plan ds IsKey b (part ∷ parts) empty plan =
+    let (chunk, among, _) = chunk_of plan part (0, omega arith, refl) in
+    let (index, _, inside) = (plan.is_cover.named chunk).0 ((are_those_inside plan.cover plan.is_cover.is_box chunk).0 among) in
+    absurd (not_empty_if_inside b.start b.shape index inside empty)
+
+pub plan_of_none : (ds : List Dimension) (IsKey : List ℕ → List ℕ → Type 0) (b : Box) → IsEmptyBox b → IsPlan ds IsKey b []
+plan_of_none ds IsKey b empty =
+    let (k, counted, _) = empty in
+    let some : length b.shape ≢ 0 = λ none. absurd (omega arith) in
+    record {
+      cover = zero_box (length b.shape);
+      is_cover = covers_none ds b (length b.shape) some empty;
+      are_parts = subst (λ chunks. AllZip (IsPart ds IsKey b) chunks []) (sym (none_in_zeros (length b.shape) some)) tt;
+    }

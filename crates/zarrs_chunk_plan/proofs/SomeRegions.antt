@@ -30,7 +30,7 @@ module _ (source : List Dimension) (IsSourceKey : List ℕ → List ℕ → Type
       let last = last_within to.in_subset.start to.in_subset.shape is.boxes.from_subset.is_box.lengths some in
       let below = place_below is (lasts to.in_subset.start to.in_subset.shape) last in
       let is_read = read_is_box region is is_region meets in
-      let (from, plan) = has_plan source IsSourceKey chains keys (shifted region.start to.in_subset) is_read some
+      let (from, plan) = has_plan source IsSourceKey chains keys (shifted region.start to.in_subset) is_read
       (λ index inside. inside_array region.start region.shape (array_sizes source) to.in_subset.start to.in_subset.shape index lies some below inside)
       in
       ((to, from), record { to = is; from = plan })

@@ -4,7 +4,8 @@ use Rattle.zarrs_chunk_plan.proofs.Common.{◌≡◌, ◌↔◌, ◌⊎◌, ◌�
 use Rattle.zarrs_chunk_plan.proofs.Common.{subst, sym, append-nil, map, Bool, Result, ⊎_elim, arith, AllocError, length-map, length-replicate, Drains}
 use Rattle.zarrs_chunk_plan.proofs.Common.{AllByRecursion, AllZip, IsBox, ends, Dimension, IsChain, array_sizes, AllFit, greatest, AreBelow}
 use Rattle.zarrs_chunk_plan.proofs.Common.{array_box, IsChange, IsChanged, IsUsed, Change, changes_to_come, HasKeys}
-use Rattle.zarrs_chunk_plan.specs.Resize.{AreChanged, IsHeld, MayHold}
+use Rattle.zarrs_chunk_plan.specs.Resize.{AreChanged, AreChangedChunks, IsHeld, IsResizePlan, MayHold}
+use Rattle.zarrs_chunk_plan.specs.declared.resize.changed.ChangedChunks.{ChangedChunks}
 use Rattle.zarrs_chunk_plan.specs.declared.resize.chunk_changes.Changes.{Changes}
 use Rattle.zarrs_chunk_plan.specs.declared.resize.plan.Change.TheVariants.{Delete, Keep, New, Rewrite}
 use Rattle.zarrs_chunk_plan.specs.declared.resize.plan.ChunkChange.{ChunkChange}
@@ -53,47 +54,44 @@ may_hold ds chunk used named holds =
 
 -- ---- what becomes of one chunk
 
-module _ {G H E : Type 0} (dimensions_before : G → List Dimension) (dimensions_after : H → List Dimension) (is_key : E → List ℕ → List ℕ → Type 0)
-    (walk : Changes G H E) where
-  abbrev Before : List Dimension
-  Before = dimensions_before walk.before.now
-
-  abbrev After : List Dimension
-  After = dimensions_after walk.after.now
-
-  -- the change of a chunk
-  abbrev pub IsChangeOf : List ℕ → ChunkChange → Type 0
-  IsChangeOf = IsChange Before After (is_key walk.encoding.now)
-
+module _ (before after : List Dimension) (IsKey : List ℕ → List ℕ → Type 0) where
   -- one of the arrays uses the chunk
   abbrev pub IsUsedByOne : List ℕ → Type 0
-  IsUsedByOne chunk = IsUsed Before chunk ⊎ IsUsed After chunk
+  IsUsedByOne chunk = IsUsed before chunk ⊎ IsUsed after chunk
 
-  module _ (chains : AllByRecursion IsChain Before) (also_chains : AllByRecursion IsChain After) (fit : AllFit (array_sizes Before))
-      (also_fit : AllFit (array_sizes After)) (keys : HasKeys (is_key walk.encoding.now)) (can : CanChange dimensions_before dimensions_after walk) where
-    becomes : (chunk : List ℕ) (before after : Option Held) → MayHold Before chunk before → MayHold After chunk after → IsUsedByOne chunk
-        → (what : Change) × IsChanged Before After chunk what
+  module _ (chains : AllByRecursion IsChain before) (also_chains : AllByRecursion IsChain after) (fit : AllFit (array_sizes before))
+      (also_fit : AllFit (array_sizes after)) (keys : HasKeys IsKey) (uses : ChangedChunks) (are : AreChangedChunks before after uses) where
+    becomes : (chunk : List ℕ) (one other : Option Held) → MayHold before chunk one → MayHold after chunk other → IsUsedByOne chunk
+        → (what : Change) × IsChanged before after chunk what
     becomes chunk (Some _) (Some _) held holds used =
-        ⊎_elim (λ below. (Keep, (can.kept chunk).0 below)) (λ above. (Rewrite, (held.0, holds.0, λ kept. above ((can.kept chunk).1 kept))))
-        (below_or_not walk.uses.kept.items chunk)
+        ⊎_elim (λ below. (Keep, (are.kept chunk).0 below)) (λ above. (Rewrite, (held.0, holds.0, λ kept. above ((are.kept chunk).1 kept))))
+        (below_or_not uses.kept.items chunk)
     becomes chunk (Some _) None held holds used = (Delete, (held.0, holds))
     becomes chunk None (Some _) held holds used = (New, (holds.0, held))
     becomes chunk None None held holds used = absurd (⊎_elim held holds used)
 
-    has_change : (chunk : List ℕ) → IsUsedByOne chunk → (change : ChunkChange) × IsChangeOf chunk change
+    has_change : (chunk : List ℕ) → IsUsedByOne chunk → (change : ChunkChange) × IsChange before after IsKey chunk change
     has_change chunk used =
-        let first = has_held (is_key walk.encoding.now) keys Before chains fit chunk in
-        let second = has_held (is_key walk.encoding.now) keys After also_chains also_fit chunk in
+        let first = has_held IsKey keys before chains fit chunk in
+        let second = has_held IsKey keys after also_chains also_fit chunk in
         let (key, is) = ⊎_elim (λ is_used. (first is_used).2) (λ is_used. (second is_used).2) used in
-        let (before, held) = may_hold Before chunk walk.uses.before.items (can.used_before chunk) (λ is_used. ((first is_used).0, (first is_used).1)) in
-        let (after, holds) = may_hold After chunk walk.uses.after.items (can.used_after chunk) (λ is_used. ((second is_used).0, (second is_used).1)) in
-        let (what, changed) = becomes chunk before after held holds used in (
-          record { key = key; chunk = record { items = chunk; capacity = 0 }; before = before; after = after; what = what },
+        let (one, held) = may_hold before chunk uses.before.items (are.used_before chunk) (λ is_used. ((first is_used).0, (first is_used).1)) in
+        let (other, holds) = may_hold after chunk uses.after.items (are.used_after chunk) (λ is_used. ((second is_used).0, (second is_used).1)) in
+        let (what, changed) = becomes chunk one other held holds used in (
+          record { key = key; chunk = record { items = chunk; capacity = 0 }; before = one; after = other; what = what },
           record { numbers = refl; key = is; held = held; holds = holds; what = changed },
         )
 
-    pub have_changes : (chunks : List (List ℕ)) → AllByRecursion IsUsedByOne chunks → (changes : List ChunkChange) × AllZip IsChangeOf chunks changes
-    have_changes = each_has IsUsedByOne IsChangeOf has_change
+    pub have_changes : (chunks : List (List ℕ)) → AllByRecursion IsUsedByOne chunks
+        → (changes : List ChunkChange) × AllZip (IsChange before after IsKey) chunks changes
+    have_changes = each_has IsUsedByOne (IsChange before after IsKey) has_change
+
+    -- so there is a plan of the resize
+    pub have_resize : (keeps : Bool) (chunks : List (List ℕ)) → AreChanged before after keeps chunks
+        → (changes : List ChunkChange) × IsResizePlan before after IsKey keeps changes
+    have_resize keeps chunks asked =
+        let (changes, zipped) = have_changes chunks (all_of_each IsUsedByOne chunks (λ chunk among. ((asked.are_those chunk).0 among).used)) in
+        (changes, record { chunks = chunks; are_chunks = asked; are_changes = zipped })
 
 -- ---- the changes that came of a walk
 
@@ -106,16 +104,17 @@ module _ {G H E : Type 0} (dimensions_before : G → List Dimension) (dimensions
   abbrev pub Gives : Changes G H E → Option (Result ChunkChange AllocError) → Changes G H E → Type 0
   Gives = GivesChange dimensions_before dimensions_after is_key
 
-  abbrev IsOne : List ℕ → ChunkChange → Type 0
-  IsOne = IsChangeOf dimensions_before dimensions_after is_key begin
+  -- the change of a chunk
+  abbrev pub IsChangeOf : List ℕ → ChunkChange → Type 0
+  IsChangeOf = IsChange (dimensions_before begin.before.now) (dimensions_after begin.after.now) (is_key begin.encoding.now)
 
   -- the changes that the walk had to give at first: one for each chunk to come
   abbrev pub AreChangesToCome : List ChunkChange → Type 0
-  AreChangesToCome = AllZip IsOne (changes_to_come begin)
+  AreChangesToCome = AllZip IsChangeOf (changes_to_come begin)
 
   -- these chunks came, of which these are the changes
   abbrev pub ChangesHaveCome : Changes G H E → List ChunkChange → Type 0
-  ChangesHaveCome now changes = (came : List (List ℕ)) × (changes_to_come begin ≡ came ++ changes_to_come now) × AllZip IsOne came changes
+  ChangesHaveCome now changes = (came : List (List ℕ)) × (changes_to_come begin ≡ came ++ changes_to_come now) × AllZip IsChangeOf came changes
       × IsAboutResize begin.before.now begin.after.now begin.encoding.now now × CanChange dimensions_before dimensions_after now
 
   pub first_change : (now : Changes G H E) (changes : List ChunkChange) → now ≡ begin → changes ≡ []
@@ -125,7 +124,7 @@ module _ {G H E : Type 0} (dimensions_before : G → List Dimension) (dimensions
   pub one_more_change : (before after : Changes G H E) (change : ChunkChange) (changes more : List ChunkChange) → ChangesHaveCome before changes
       → Gives before (Some (Ok change)) after → more ≡ changes ++ change ∷ [] → ChangesHaveCome after more
   one_more_change before after change changes more (came, left, are, about, can) gives is =
-      let (now_came, all, now_are) = one_came IsOne (changes_to_come begin) came (changes_to_come before) (changes_to_come after) change.chunk.items
+      let (now_came, all, now_are) = one_came IsChangeOf (changes_to_come begin) came (changes_to_come before) (changes_to_come after) change.chunk.items
       change changes more left gives.gives are (rw (← about.same_before, ← about.same_after, ← about.same_encoding) (gives.change can)) is
       in
       (now_came, all, now_are, rw (about.same_before, about.same_after, about.same_encoding) at gives.about, gives.can can)
@@ -133,7 +132,7 @@ module _ {G H E : Type 0} (dimensions_before : G → List Dimension) (dimensions
   pub last_change : (before after : Changes G H E) (changes : List ChunkChange) → ChangesHaveCome before changes → Gives before None after
       → AreChangesToCome changes
   last_change before after changes (came, left, are, about, can) gives =
-      subst (λ chunks. AllZip IsOne chunks changes) (sym (left ∙ ap (λ xs. came ++ xs) gives.gives.0 ∙ append-nil came)) are
+      subst (λ chunks. AllZip IsChangeOf chunks changes) (sym (left ∙ ap (λ xs. came ++ xs) gives.gives.0 ∙ append-nil came)) are
 
   -- so what a walk gives up to its end are the changes to come
   pub all_changes_to_come : (given : List ChunkChange) → CanChange dimensions_before dimensions_after begin → Drains Gives begin (map Ok given)
@@ -144,13 +143,12 @@ module _ {G H E : Type 0} (dimensions_before : G → List Dimension) (dimensions
   pub changes_ahead : AllByRecursion IsChain (dimensions_before begin.before.now) → AllByRecursion IsChain (dimensions_after begin.after.now)
       → AllFit (array_sizes (dimensions_before begin.before.now)) → AllFit (array_sizes (dimensions_after begin.after.now))
       → HasKeys (is_key begin.encoding.now) → CanChange dimensions_before dimensions_after begin
-      → AllByRecursion (IsUsedByOne dimensions_before dimensions_after is_key begin) (changes_to_come begin)
+      → AllByRecursion (IsUsedByOne (dimensions_before begin.before.now) (dimensions_after begin.after.now) (is_key begin.encoding.now)) (changes_to_come begin)
       → (now : Changes G H E) (came : List ChunkChange) → ChangesHaveCome now came → (others : List ChunkChange) × AreChangesToCome (came ++ others)
   changes_ahead chains also_chains fit also_fit keys can used now came (chunks, left, are, about, still) =
-      let left_used = all_behind (IsUsedByOne dimensions_before dimensions_after is_key begin) chunks (changes_to_come now) (rw left at used) in
-      let (others, also) = have_changes dimensions_before dimensions_after is_key begin chains also_chains fit also_fit keys can (changes_to_come now)
-      left_used in
-      (others, rw left (both_zipped IsOne chunks (changes_to_come now) came others are also))
+      let left_used = all_behind _ chunks (changes_to_come now) (rw left at used) in
+      let (others, also) = have_changes _ _ _ chains also_chains fit also_fit keys begin.uses can.changed (changes_to_come now) left_used in
+      (others, rw left (both_zipped IsChangeOf chunks (changes_to_come now) came others are also))
 
 -- the chunks of which a change is asked for are used
 pub asked_are_used : (before after : List Dimension) (keeps : Bool) (chunks : List (List ℕ)) → AreChanged before after keeps chunks

@@ -1,10 +1,12 @@
 -- The parts that came of a walk, one for each chunk that came; at the end they are a plan.
 use Rattle.zarrs_chunk_plan.proofs.Common.{◌≡◌, ◌∙◌, ℕ, List, [], ◌∷◌, ◌++◌, Option, Some, None, Result, Ok, map, append_assoc, append-nil, ap, refl}
-use Rattle.zarrs_chunk_plan.proofs.Common.{subst, sym, AllocError, Drains, AllZip, Box, Dimension, IsCover, chunks_in, IsPart, IsPlan, Part}
+use Rattle.zarrs_chunk_plan.proofs.Common.{subst, sym, AllocError, Drains, AllZip, Box, Dimension, chunks_in, IsPart, IsPlan, Part}
 use Rattle.std.proofs.lemmas.Slice.Zip.{all_zipped_more}
 use Rattle.std.specs.Iterator.{Yields}
+use Rattle.zarrs_chunk_parts.specs.Plan.{Covers}
 use Rattle.zarrs_chunk_plan.specs.declared.read.walk.Parts.{Parts}
-use Rattle.zarrs_chunk_plan.specs.seen.Parts.{ArePartsToCome, GivesPart, IsAbout, MeetSubset, chunks_to_come}
+use Rattle.zarrs_chunk_plan.specs.seen.Parts.{ArePartsToCome, GivesPart, IsAbout, IsPlanned, MeetSubset, chunks_to_come}
+use Rattle.zarrs_chunk_plan.proofs.Plans.{meet_each}
 
 -- one more came, of those that were left
 pub one_came : {X Y : Type 0} (R : X → Y → Type 0) (all came before after : List X) (x : X) (y : Y) (ys more : List Y) → all ≡ came ++ before
@@ -64,9 +66,15 @@ module _ {G E : Type 0} (dimensions : G → List Dimension) (is_key : E → List
       all_given (GivesPart dimensions is_key) HaveCome (ArePartsToCome dimensions is_key begin) one_more at_last begin given
       (at_first begin [] refl refl meet)
 
+-- a walk that has to give a plan comes by chunks that hold elements of the box
+pub planned_meet : {G E : Type 0} (dimensions : G → List Dimension) (grid : G) (encoding : E) (subset : Box) (walk : Parts G E)
+    → IsPlanned dimensions grid encoding subset walk → MeetSubset dimensions walk
+planned_meet dimensions grid encoding subset walk planned =
+    let about = planned.about in rw (about.same_grid, about.same_subset, planned.left) (meet_each planned.is_cover)
+
 -- the parts of all chunks of the cover are a plan
 pub plan_of : {G E : Type 0} (dimensions : G → List Dimension) (is_key : E → List ℕ → List ℕ → Type 0) (grid : G) (encoding : E) (subset cover : Box)
-    (walk : Parts G E) (all : List Part) → IsAbout grid encoding subset walk → IsCover (dimensions grid) subset cover
+    (walk : Parts G E) (all : List Part) → IsAbout grid encoding subset walk → Covers (dimensions grid) subset cover
     → chunks_to_come walk ≡ chunks_in cover → ArePartsToCome dimensions is_key walk all → IsPlan (dimensions grid) (is_key encoding) subset all
 plan_of dimensions is_key grid encoding subset cover walk all about is left are =
     record { cover = cover; is_cover = is; are_parts = rw (← left, ← about.same_grid, ← about.same_encoding, ← about.same_subset) are }

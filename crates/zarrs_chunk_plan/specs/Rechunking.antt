@@ -52,8 +52,8 @@ pub record IsExchanged (copy other : Part × Part) : Type 0 where
   pub in_target : other.0.in_chunk.start ≡ counted_from copy.1.in_chunk.start copy.0.in_subset.start
   pub shape : other.0.in_chunk.shape ≡ copy.0.in_chunk.shape
 
--- Boxes of chunk numbers share the chunks out that hold elements of the array: each lies in one of the boxes, and in no other.
-pub record ShareOut (target : List Dimension) (boxes : List Box) : Type 0 where
-  pub all : (chunk : List ℕ) → Meets target (array_box target) chunk → (b : Box) × Contains boxes b × IsInside b chunk
+-- Boxes of chunk numbers share the chunks out that hold some of a box of elements: each lies in one of the boxes, and in no other.
+pub record ShareOut (target : List Dimension) (elements : Box) (boxes : List Box) : Type 0 where
+  pub all : (chunk : List ℕ) → Meets target elements chunk → (b : Box) × Contains boxes b × IsInside b chunk
   pub apart : AllPairs
-      (λ b other. (chunk : List ℕ) → Meets target (array_box target) chunk → IsInside b chunk → IsInside other chunk → ⊥) boxes
+      (λ b other. (chunk : List ℕ) → Meets target elements chunk → IsInside b chunk → IsInside other chunk → ⊥) boxes

@@ -1,7 +1,7 @@
 -- Copies. A region, which is a box of elements of one array, goes to a box of the same shape in another array, or in the same one: for each chunk of the
 -- target that takes some of it, the elements that it takes, and the parts of the source's chunks that have them.
 -- Sources: Zarr V3 core, chunk grids and chunk key encodings; the copy is this library's own.
-use Rattle.std.specs.Prelude.{◌≡◌, ◌≢◌, ◌↔◌, ℕ, ◌+◌, ◌≤◌, List, [], ◌∷◌, length, map}
+use Rattle.std.specs.Prelude.{◌≡◌, ◌≢◌, ◌↔◌, ℕ, ◌+◌, ◌≤◌, List, [], ◌∷◌, Option, Some, None, length, map}
 use Rattle.std.specs.List.{AllZip, flat_map}
 use Rattle.zarrs_chunk_base.specs.ArraySubset.{Box, IsBox, IsInside}
 use Rattle.zarrs_chunk_base.specs.Dimension.{Dimension, InBox, IsPlace, array_sizes}
@@ -65,6 +65,18 @@ AreTargets ds b Chosen targets = (chunk : List ℕ) → IsInside targets chunk �
 -- each chunk is chosen
 abbrev pub AnyChunk : List ℕ → Type 0
 AnyChunk _ = Unit {0}
+
+-- those of a box of chunk numbers are, and each without a box
+abbrev pub IsChosen : Option Box → List ℕ → Type 0
+IsChosen None = AnyChunk
+IsChosen (Some chunks) = IsInside chunks
+
+-- where an element of the region goes: it lies as far behind `at` as it lay behind the region's first element
+pub record IsDestination (region : Box) (at index to : List ℕ) : Type 0 where
+  pub behind : List ℕ
+  pub below : AreBelow region.shape behind
+  pub from : index ≡ counted_from region.start behind
+  pub into : to ≡ counted_from at behind
 
 module _ (source : List Dimension) (IsSourceKey : List ℕ → List ℕ → Type 0) (target : List Dimension) (IsTargetKey : List ℕ → List ℕ → Type 0)
     (region : Box) (at : List ℕ) where

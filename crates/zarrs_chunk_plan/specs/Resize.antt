@@ -1,7 +1,7 @@
 -- An array that gets another shape: which of its chunks stay as they are stored, and which don't. What each chunk holds is said of two grids, that of
 -- the array as it was and that of the array as it is to be.
 -- Sources: Zarr V3 core, chunk grids and chunk key encodings; the plan of a resize is this library's own.
-use Rattle.std.specs.Prelude.{◌≡◌, ◌≢◌, ◌↔◌, ◌⊎◌, ◌<◌, ℕ, Bool, IsTrue, List, Option, MatchOption}
+use Rattle.std.specs.Prelude.{◌≡◌, ◌≢◌, ◌↔◌, ◌⊎◌, ◌<◌, ℕ, Bool, IsTrue, List, Option, MatchOption, length}
 use Rattle.std.specs.List.{AllPairs, AllZip, Contains}
 use Rattle.zarrs_chunk_base.specs.ArraySubset.{IsBox, IsInside}
 use Rattle.zarrs_chunk_base.specs.Dimension.{Dimension, Holds, InBox, IsShape, array_sizes}
@@ -71,7 +71,7 @@ pub record AreChanged (before after : List Dimension) (keeps : Bool) (chunks : L
   pub once : AllPairs (λ one other. one ≢ other) chunks
   pub are_those : (chunk : List ℕ) → Contains chunks chunk ↔ IsAsked before after keeps chunk
 
--- the plan of a resize: a change for each of them
+-- the plan of a resize: a change for each of them, in any order
 pub record IsResizePlan (before after : List Dimension) (IsKey : List ℕ → List ℕ → Type 0) (keeps : Bool) (changes : List ChunkChange) : Type 0 where
   pub chunks : List (List ℕ)
   pub are_chunks : AreChanged before after keeps chunks
@@ -80,6 +80,9 @@ pub record IsResizePlan (before after : List Dimension) (IsKey : List ℕ → Li
 -- Along each dimension, how many chunks hold elements of the array before the resize, and after it, and how many are kept. A chunk is one of them if
 -- its numbers are below the list.
 pub record AreChangedChunks (before after : List Dimension) (changed : ChangedChunks) : Type 0 where
+  pub long_before : length changed.before.items ≡ length before
+  pub long_after : length changed.after.items ≡ length after
+  pub long_kept : length changed.kept.items ≡ length before
   pub used_before : (chunk : List ℕ) → AreBelow changed.before.items chunk ↔ IsUsed before chunk
   pub used_after : (chunk : List ℕ) → AreBelow changed.after.items chunk ↔ IsUsed after chunk
   pub kept : (chunk : List ℕ) → AreBelow changed.kept.items chunk ↔ IsKept before after chunk

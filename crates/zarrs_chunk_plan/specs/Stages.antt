@@ -1,5 +1,4 @@
--- A rechunking in two stages, by an array between that is cut into chunks of one shape: which shapes are tried, and which of them is chosen. The
--- field calls it the intermediate array.
+-- A rechunking in two stages, by an intermediate array that is cut into chunks of one shape: which shapes are tried, and which of them is chosen.
 -- Source: this library's own; rechunking in two stages under a bound of memory is the field's practice.
 use Rattle.std.specs.Prelude.{◌≡◌, ◌≢◌, ◌↔◌, ◌⊎◌, ◌+◌, ◌<◌, ◌≤◌, ◌^◌, ℕ, zero, suc, List, [], ◌∷◌, MatchOption, Option}
 use Rattle.std.specs.Prelude.{cond, length, map, max, min, nat_lt, replicate}
@@ -12,6 +11,7 @@ use Rattle.zarrs_chunk_axes.specs.RowMajor.{IsBefore}
 use Rattle.zarrs_chunk_plan.specs.Counts.{AreFew, product}
 use Rattle.zarrs_chunk_parts.specs.Plan.{Meets}
 use Rattle.zarrs_chunk_plan.specs.Rechunking.{Group, IsRechunking, all_chunks_box, array_box, copies_of}
+use Rattle.zarrs_chunk_plan.specs.Strided.{has_zero}
 use Rattle.zarrs_chunk_plan.specs.declared.two_stages.stages_error.StagesError.{StagesError}
 use Rattle.zarrs_chunk_plan.specs.declared.two_stages.stages_error.StagesError.TheVariants.{ArrayShapes, ManyChunks, ManyShapes}
 
@@ -38,6 +38,10 @@ HasManyChunks ds = (chunks : Box) × AreUsed ds chunks × ¬ AreFew chunks
 -- a chunk of one shape and one of the other have together at most so many elements
 abbrev pub HoldAtMost : ℕ → List ℕ → List ℕ → Type 0
 HoldAtMost most shape other = product shape + product other ≤ most
+
+-- The bound that counts. An array with a size of 0 holds no elements, so it is within any bound.
+unfoldable pub bound_for : (sizes : List ℕ) → (most : ℕ) → ℕ
+bound_for sizes most = cond (has_zero sizes) greatest most
 
 -- an edge, doubled so many times at most, as long as it is below the last one; and the last one
 unfoldable pub doubled : (times edge last : ℕ) → List ℕ
@@ -66,8 +70,8 @@ shapes_tried tried = product (map length tried)
 abbrev pub AnyKey : List ℕ → List ℕ → Type 0
 AnyKey numbers key = Unit {0}
 
--- The plans of two stages, by an array between, of the same shape and in chunks of one shape, and how many chunks both read together. A chunk that is in
--- several lines is read in each.
+-- The plans of two stages, by an intermediate array of the same shape and in chunks of one shape, and how many chunks both read together. A chunk that
+-- is in several lines is read in each.
 pub record AreStages (source target : List Dimension) (shape : List ℕ) (reads : ℕ) : Type 0 where
   pub between : List Dimension
   pub chunks : AreEqualEdges between (array_sizes source) shape
@@ -100,8 +104,8 @@ pub record FindsShape (source target : List Dimension) (most : ℕ) (found : Opt
   pub other : List ℕ
   pub is_other : IsLargest target other
   pub few : shapes_tried (all_tried (array_sizes source) largest other) ≤ 2 ^ 20
-  pub finds : MatchOption found ((shape : List ℕ) → ¬ Fits (array_sizes source) most largest other shape)
-      (IsChosen source target most largest other)
+  pub finds : MatchOption found ((shape : List ℕ) → ¬ Fits (array_sizes source) (bound_for (array_sizes source) most) largest other shape)
+      (IsChosen source target (bound_for (array_sizes source) most) largest other)
 
 -- The fault says that the grids are of arrays of different shapes; or that one of them has too many chunks.
 abbrev pub IsBoundFault : (source target : List Dimension) → StagesError → Type 0

@@ -1,6 +1,7 @@
 -- The strided form of byte ranges, which is the one that is answered: ranges of one length, so many along each of some dimensions, by a stride.
 -- That these are the bytes of the box's elements is the law `byte_ranges_have_the_bytes_of_the_box`. Source: this library's own.
 use Rattle.std.specs.Prelude.{ℕ, ◌+◌, ◌*◌, ◌==◌, ◌&&◌, Bool, true, false, cond, nat_le, List, [], ◌∷◌, Option, Some, None}
+use Rattle.std.specs.List.{list_any}
 use Rattle.zarrs_chunk_base.specs.Greatest.{greatest}
 use Rattle.zarrs_chunk_plan.specs.Bytes.{in_order}
 use Rattle.zarrs_chunk_plan.specs.Counts.{product}
@@ -48,8 +49,7 @@ lies_in (s ∷ start) (n ∷ shape) (edge ∷ edges) = cond (nat_le (s + n) edge
 lies_in _ _ _ = false
 
 abbrev pub has_zero : List ℕ → Bool
-has_zero [] = false
-has_zero (n ∷ numbers) = cond (n == 0) true (has_zero numbers)
+has_zero = list_any (λ n. n == 0)
 
 -- The ranges that are answered of a box: `None`, where it doesn't lie in the chunk, or isn't empty and no number counts the chunk's bytes.
 abbrev pub ranges_of : (item : ℕ) → MemoryOrder → (edges start shape : List ℕ) → Option Strided

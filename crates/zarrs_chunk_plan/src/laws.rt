@@ -8,27 +8,27 @@
 //! | No two parts have one key | [`no_two_parts_have_one_key`] |
 //! | The parts' boxes tile the box: each place in it lies in exactly one, they reach nowhere else, and none is empty | [`the_parts_tile_the_box`] |
 //! | Shares of a plan are together the plan | [`shares_are_together_the_plan`] |
-//! | What a walk that `copies` answers gives is a rechunking | [`the_walk_gives_the_rechunking`] |
-//! | Each element whose target chunk is asked for is moved, place to place, by exactly one copy | [`each_element_is_copied_once`] |
+//! | What a walk that `copies` or `copies_of_region` returns gives, one group after another, is the rechunking, or the copy of the region | [`the_walk_gives_the_copy`] |
+//! | Each element that goes into a chosen chunk is moved, place to place, by exactly one copy | [`each_element_is_copied_once`] |
+//! | Each chunk that takes some of a region has one group; one that is whole is written whole | [`each_chunk_has_one_group`] |
 //! | A copy whose part of the source is whole is the only one of that chunk | [`a_whole_part_is_the_only_one_of_its_chunk`] |
 //! | A rechunking the other way round has the same copies | [`the_other_way_round_has_the_same_copies`] |
 //! | Two rechunkings, the second of what the first one leaves, are together one | [`two_stages_are_together_one`] |
+//! | There are two stages by way of an intermediate array in chunks of each shape | [`there_are_two_stages`] |
 //! | Where a largest chunk of either array holds few enough elements together with one of the other, so do the two chunks of each copy | [`each_line_holds_at_most`] |
-//! | Rechunkings that share the target's chunks out are together the whole one | [`rechunkings_that_share_out_are_the_whole_one`] |
-//! | What a walk that `copies_of_region` answers gives, one group after another, is the copy of the region | [`the_walk_gives_the_region`] |
-//! | Each element of a region is moved, place to place, by exactly one copy | [`each_element_of_a_region_is_copied_once`] |
-//! | Each chunk that takes some of a region has one group; one that is whole is written whole | [`each_chunk_of_a_region_has_one_group`] |
-//! | Each box that has a cover has a plan; there is a rechunking, and the copy of a region, into any chunks | [`there_is_a_plan`] |
+//! | Copies that share the target's chunks out are together the whole one | [`copies_that_share_out_are_the_whole_one`] |
+//! | Each box that has a cover has a plan; there is a copy of each region, into any chunks | [`there_is_a_plan`] |
 //! | Byte ranges of the form that is answered have the bytes of the box's elements, and no other | [`byte_ranges_have_the_bytes_of_the_box`] |
 //! | Grids that one configuration makes of two array shapes share their chunks | [`grids_of_one_configuration_share_their_chunks`] |
 //! | What a walk that `changes` answers gives, one after another, is the plan of the resize | [`the_walk_gives_the_resize`] |
+//! | There is a plan of each resize | [`there_is_a_resize`] |
 //! | Each chunk of which a change is asked for has one, and no two are under one key | [`each_chunk_has_one_change`] |
 //! | A chunk that is kept holds each element at the place where it held it | [`a_kept_chunk_is_as_it_was`] |
 //! | An element that both arrays have stays in its chunk, at its place; its chunk is kept or written again | [`each_element_stays_in_its_chunk`] |
 //! | The chunk of an element that leaves is written again or deleted, that of one that comes is written again or new | [`each_element_that_leaves_or_comes_changes_its_chunk`] |
-ghost use Rattle.std.specs.Prelude.{◌≡◌, ◌≢◌, ◌↔◌, ◌⊎◌, ◌<◌, ℕ, [], Bool, IsTrue, true, false, List, Ok, Option, Some, length, map, option_map, replicate};
+ghost use Rattle.std.specs.Prelude.{◌≡◌, ◌≢◌, ◌↔◌, ◌⊎◌, ◌<◌, ℕ, [], Bool, IsTrue, true, false, List, Ok, Option, length, map, option_map};
 ghost use Rattle.std.specs.Iterator.{Drains};
-ghost use Rattle.std.specs.List.{AllPairs, AllZip, Contains, flat_map, range_with_len};
+ghost use Rattle.std.specs.List.{AllByRecursion, AllPairs, AllZip, Contains, flat_map, range_with_len};
 ghost use Rattle.zarrs_chunk_axes.specs.EqualEdges.{AreEqualEdges};
 ghost use Rattle.zarrs_chunk_axes.specs.InBounds.{AreBelow};
 ghost use Rattle.zarrs_chunk_base.specs.ArraySubset.{Box, IsBox, IsEmptyBox, IsInside};
@@ -38,29 +38,30 @@ ghost use Rattle.zarrs_chunk_base.specs.Grid.{Grid};
 ghost use Rattle.zarrs_chunk_base.specs.Metadata.{Extension};
 ghost use Rattle.zarrs_chunks.specs.GridKinds.{IsGrid};
 ghost use Rattle.zarrs_chunks.specs.Subsets.{IsCover};
-ghost use Rattle.zarrs_chunks.specs.Walks.{chunks_in, counted_from};
+ghost use Rattle.zarrs_chunks.specs.Walks.{chunks_in};
 ghost use Rattle.zarrs_chunk_plan.specs.Bytes.{FindsRanges};
 ghost use Rattle.zarrs_chunk_parts.specs.Plan.{HasElement, IsPart, IsPlan};
-ghost use Rattle.zarrs_chunk_plan.specs.Rechunking.{AreTargets, Goes, Group, IsExchanged, IsRechunking, Moves, ShareOut, all_chunks_box, array_box, copies_of};
-ghost use Rattle.zarrs_chunk_plan.specs.Region.{AnyChunk, CanBeMoved, IsRegionCopy, MovesTo, moved};
-ghost use Rattle.zarrs_chunk_plan.specs.Resize.{AreChanged, AreResized, HasElementOf, IsAsked, IsChange, IsChanged, IsKept, IsResizePlan, IsUsed};
+ghost use Rattle.zarrs_chunk_plan.specs.Rechunking.{AreTargets, Goes, Group, IsExchanged, IsRechunking, ShareOut, all_chunks_box, array_box, copies_of};
+ghost use Rattle.zarrs_chunk_plan.specs.Region.{CanBeMoved, IsChosen, IsCopy, IsDestination, MovesTo, moved};
+ghost use Rattle.zarrs_chunk_plan.specs.Resize.{AreChanged, AreChangedChunks, AreResized, HasElementOf, IsAsked, IsChange, IsChanged, IsKept, IsResizePlan, IsUsed};
+ghost use Rattle.zarrs_chunk_plan.specs.declared.resize.changed.ChangedChunks.{ChangedChunks};
 ghost use Rattle.zarrs_chunk_plan.specs.declared.resize.plan.Change.TheVariants.{Delete, Keep, New, Rewrite};
 ghost use Rattle.zarrs_chunk_plan.specs.Shares.{numbered_share};
-ghost use Rattle.zarrs_chunk_plan.specs.Stages.{HoldAtMost, NoneIsLonger};
+ghost use Rattle.zarrs_chunk_plan.specs.Stages.{AreStages, HoldAtMost, NoneIsLonger};
 ghost use Rattle.zarrs_chunk_plan.specs.Strided.{form_of, ranges_of};
 ghost use Rattle.zarrs_chunk_plan.specs.declared.bytes.ranges.ByteRanges.{ByteRanges as ByteRangesValue};
 ghost use Rattle.zarrs_chunk_plan.specs.declared.bytes.ranges.MemoryOrder.{MemoryOrder as MemoryOrderValue};
 ghost use Rattle.zarrs_chunk_plan.specs.seen.Changes.{AreChangesToCome, CanChange, GivesChange, IsAboutResize, changes_to_come};
 ghost use Rattle.zarrs_chunk_plan.specs.seen.Copies.{AreMovesToCome, CanMove, GivesCopies, HasAllParts, IsAboutCopies, first_of, targets_to_come};
-ghost use Rattle.zarrs_chunk_plan.specs.seen.Parts.{AnswersNoParts, AnswersParts, ArePartsToCome, GivesPart, IsAbout, MeetSubset};
+ghost use Rattle.zarrs_chunk_plan.specs.seen.Parts.{ArePartsToCome, GivesPart, IsPlanned, MeetSubset};
 
 use crate::{Change, Changes, ChunkChange, ChunkCopies, Copies, Part, Parts, StoredArray};
 use zarrs_chunk_base::ArraySubset;
 use zarrs_chunk_keys::ChunkKeyEncodingTraits;
 use zarrs_chunks::ChunkGridTraits;
 
-/// What a walk over a box gives up to its end is its parts to come. Of a walk that `parts` answers these are a plan of the box: one for each chunk of
-/// its cover, in order; of an empty box there are none.
+/// What a walk over a box gives up to its end is its parts to come. These are a plan of the box, for a walk that `parts` returns: one for each chunk of
+/// its cover, in order. An empty box has no parts.
 pub fn the_walk_gives_the_plan<G: ChunkGridTraits, E: ChunkKeyEncodingTraits>(
     grid: &G,
     encoding: &E,
@@ -69,12 +70,11 @@ pub fn the_walk_gives_the_plan<G: ChunkGridTraits, E: ChunkKeyEncodingTraits>(
         → Drains (GivesPart G.dimensions E.is_key) walk (map Ok parts)
         → ArePartsToCome G.dimensions E.is_key walk parts }
     ensures plan { (elements : Box) (walk : Parts G E) (parts : List Part)
-        → AnswersParts (G.dimensions grid.now) elements (Ok (Some walk))
-        → IsAbout grid.now encoding.now elements walk
+        → IsPlanned G.dimensions grid.now encoding.now elements walk
         → ArePartsToCome G.dimensions E.is_key walk parts
         → IsPlan (G.dimensions grid.now) (E.is_key encoding.now) elements parts }
-    ensures none { (walk : Parts G E) (parts : List Part) → AnswersNoParts (Ok (Some walk))
-        → ArePartsToCome G.dimensions E.is_key walk parts → parts ≡ [] }
+    ensures none { (elements : Box) (parts : List Part) → IsEmptyBox elements
+        → IsPlan (G.dimensions grid.now) (E.is_key encoding.now) elements parts → parts ≡ [] }
 {}
 
 /// So many shares of a plan, one behind another, are the plan: nothing of it is in two of them, and nothing is left out.
@@ -122,8 +122,7 @@ pub fn no_two_parts_have_one_key<G: ChunkGridTraits, E: ChunkKeyEncodingTraits>(
         → AllPairs (λ part other. part.key ≢ other.key) parts }
 {}
 
-/// A place in the box lies in the box of exactly one part of the plan, and the parts' boxes reach nowhere else. None of them is empty, unless
-/// the box is.
+/// A place in the box lies in the box of exactly one part of the plan, and the parts' boxes reach nowhere else. None of them is empty.
 pub fn the_parts_tile_the_box<G: ChunkGridTraits, E: ChunkKeyEncodingTraits>(
     grid: &G,
     encoding: &E,
@@ -137,76 +136,129 @@ pub fn the_parts_tile_the_box<G: ChunkGridTraits, E: ChunkKeyEncodingTraits>(
         → IsPlan (G.dimensions grid.now) (E.is_key encoding.now) array_subset.now parts
         → AllPairs (λ part other. (place : List ℕ) → IsInside part.in_subset place
         → IsInside other.in_subset place → ⊥) parts }
-    ensures not_empty { (¬ IsEmptyBox array_subset.now) → (parts : List Part)
+    ensures not_empty { (parts : List Part)
         → IsPlan (G.dimensions grid.now) (E.is_key encoding.now) array_subset.now parts
         → (part : Part) → Contains parts part → ¬ IsEmptyBox part.in_subset }
 {
     array_subset.is_a_box();
 }
 
-/// What a walk that `copies` answers has to give is a rechunking into the chunks that were asked for. That the walk gives it up to its end is the law
-/// of [regions](the_walk_gives_the_region).
-pub fn the_walk_gives_the_rechunking<
+/// What a walk over copies gives up to its end, each group with all of its parts, is its groups to come. These are the rechunking, for a walk that `copies`
+/// returns, and the copy of the region, for one that `copies_of_region` returns. The region of a rechunking is the whole array, which goes to where it is.
+pub fn the_walk_gives_the_copy<
     G: ChunkGridTraits,
     E: ChunkKeyEncodingTraits,
     H: ChunkGridTraits,
     F: ChunkKeyEncodingTraits,
 >(source: &StoredArray<G, E>, target: &StoredArray<H, F>)
-    ensures { array_sizes (G.dimensions source.now.grid)
-        ≡ array_sizes (H.dimensions target.now.grid)
-        → (chunks targets : Box) (walk : Copies G E H F) (groups : List Group)
-        → IsBox targets → AreTargets (H.dimensions target.now.grid)
-        (array_box (H.dimensions target.now.grid)) (IsInside chunks) targets
+    ensures to_come { (walk : Copies G E H F) (given : List (ChunkCopies G E))
+        (groups : List Group) → CanMove G.dimensions H.dimensions walk
+        → Drains (GivesCopies G.dimensions H.dimensions F.is_key) walk (map Ok given)
+        → AllZip (HasAllParts G.dimensions E.is_key) given groups
+        → AreMovesToCome G.dimensions E.is_key H.dimensions F.is_key walk groups }
+    ensures copy { (region : Box) (at : List ℕ) (chosen : Option Box) (targets : Box)
+        (walk : Copies G E H F) (groups : List Group)
+        → CanBeMoved (array_sizes (G.dimensions source.now.grid))
+        (array_sizes (H.dimensions target.now.grid)) region at → IsBox targets
+        → AreTargets (H.dimensions target.now.grid) (moved at region) (IsChosen chosen) targets
         → targets_to_come walk ≡ chunks_in targets
-        → IsAboutCopies source.now target.now (array_box (H.dimensions target.now.grid)) walk
-        → first_of walk ≡ replicate (length (H.dimensions target.now.grid)) 0
+        → IsAboutCopies source.now target.now (moved at region) walk
+        → first_of walk ≡ region.start
         → AreMovesToCome G.dimensions E.is_key H.dimensions F.is_key walk groups
-        → IsRechunking (G.dimensions source.now.grid) (E.is_key source.now.encoding)
-        (H.dimensions target.now.grid) (F.is_key target.now.encoding) chunks groups }
+        → IsCopy (G.dimensions source.now.grid) (E.is_key source.now.encoding)
+        (H.dimensions target.now.grid) (F.is_key target.now.encoding) region at (IsChosen chosen)
+        groups }
+    ensures whole_array { array_sizes (G.dimensions source.now.grid)
+        ≡ array_sizes (H.dimensions target.now.grid)
+        → CanBeMoved (array_sizes (G.dimensions source.now.grid))
+        (array_sizes (H.dimensions target.now.grid)) (array_box (H.dimensions target.now.grid))
+        (array_box (H.dimensions target.now.grid)).start }
 {}
 
-/// Each element of the array whose chunk of the target is asked for is moved by exactly one copy, from its place in the chunk of the source that
-/// holds it to its place in the chunk of the target that does. Each copy is under the keys of its two chunks, its two boxes have one shape, and
-/// it moves nothing but elements of the array.
+/// Each element of the region that goes into a chosen chunk is moved by exactly one copy: from its place in the chunk of the source that holds it to
+/// its new place, in that chunk of the target. No two copies write one element of the target's array, or read one of the source's. Each copy is under the
+/// keys of its two chunks, its two boxes have one shape, and it moves nothing but elements of the region. An element of a rechunking keeps its index.
 pub fn each_element_is_copied_once<
     G: ChunkGridTraits,
     E: ChunkKeyEncodingTraits,
     H: ChunkGridTraits,
     F: ChunkKeyEncodingTraits,
 >(source: &StoredArray<G, E>, target: &StoredArray<H, F>)
-    ensures one { (chunks : Box) (groups : List Group) → IsRechunking (G.dimensions source.now.grid)
-        (E.is_key source.now.encoding) (H.dimensions target.now.grid) (F.is_key target.now.encoding)
-        chunks groups → (index chunk : List ℕ)
-        → AreBelow (array_sizes (H.dimensions target.now.grid)) index
-        → InBox (H.dimensions target.now.grid) chunk index → IsInside chunks chunk
+    ensures one { (region : Box) (at : List ℕ) (chosen : Option Box) (groups : List Group)
+        → IsCopy (G.dimensions source.now.grid) (E.is_key source.now.encoding)
+        (H.dimensions target.now.grid) (F.is_key target.now.encoding) region at (IsChosen chosen)
+        groups
+        → (index to chunk : List ℕ) → IsDestination region at index to
+        → InBox (H.dimensions target.now.grid) chunk to → IsChosen chosen chunk
         → (copy : Part × Part) × Contains (copies_of groups) copy × ((steps : List ℕ)
-        × Moves (G.dimensions source.now.grid) (H.dimensions target.now.grid) copy steps index) }
-    ensures no_other { (chunks : Box) (groups : List Group)
-        → IsRechunking (G.dimensions source.now.grid)
-        (E.is_key source.now.encoding) (H.dimensions target.now.grid) (F.is_key target.now.encoding)
-        chunks groups → AllPairs (λ copy other. (steps also index : List ℕ)
-        → Moves (G.dimensions source.now.grid) (H.dimensions target.now.grid) copy steps index
-        → Moves (G.dimensions source.now.grid) (H.dimensions target.now.grid) other also index → ⊥)
-        (copies_of groups) }
-    ensures nothing_else { (chunks : Box) (groups : List Group)
-        → IsRechunking (G.dimensions source.now.grid)
-        (E.is_key source.now.encoding) (H.dimensions target.now.grid) (F.is_key target.now.encoding)
-        chunks groups → (copy : Part × Part) → Contains (copies_of groups) copy
-        → (steps : List ℕ) → AreBelow copy.0.in_chunk.shape steps → (index : List ℕ)
-        × AreBelow (array_sizes (H.dimensions target.now.grid)) index
-        × Moves (G.dimensions source.now.grid) (H.dimensions target.now.grid) copy steps index }
-    ensures keys { (chunks : Box) (groups : List Group)
-        → IsRechunking (G.dimensions source.now.grid)
-        (E.is_key source.now.encoding) (H.dimensions target.now.grid) (F.is_key target.now.encoding)
-        chunks groups → (copy : Part × Part) → Contains (copies_of groups) copy
+        × MovesTo (G.dimensions source.now.grid) (H.dimensions target.now.grid) copy steps index to) }
+    ensures no_other { (region : Box) (at : List ℕ) (chosen : Option Box) (groups : List Group)
+        → IsCopy (G.dimensions source.now.grid) (E.is_key source.now.encoding)
+        (H.dimensions target.now.grid) (F.is_key target.now.encoding) region at (IsChosen chosen)
+        groups
+        → AllPairs (λ copy other. (steps also index next to : List ℕ)
+        → MovesTo (G.dimensions source.now.grid) (H.dimensions target.now.grid) copy steps index to
+        → MovesTo (G.dimensions source.now.grid) (H.dimensions target.now.grid) other also next to
+        → ⊥) (copies_of groups) }
+    ensures no_other_source { (region : Box) (at : List ℕ) (chosen : Option Box)
+        (groups : List Group)
+        → IsCopy (G.dimensions source.now.grid) (E.is_key source.now.encoding)
+        (H.dimensions target.now.grid) (F.is_key target.now.encoding) region at (IsChosen chosen)
+        groups
+        → AllPairs (λ copy other. (steps also index to next : List ℕ)
+        → MovesTo (G.dimensions source.now.grid) (H.dimensions target.now.grid) copy steps index to
+        → MovesTo (G.dimensions source.now.grid) (H.dimensions target.now.grid) other also index
+        next → ⊥) (copies_of groups) }
+    ensures nothing_else { (region : Box) (at : List ℕ) (chosen : Option Box) (groups : List Group)
+        → IsCopy (G.dimensions source.now.grid) (E.is_key source.now.encoding)
+        (H.dimensions target.now.grid) (F.is_key target.now.encoding) region at (IsChosen chosen)
+        groups
+        → (copy : Part × Part) → Contains (copies_of groups) copy
+        → (steps : List ℕ) → AreBelow copy.0.in_chunk.shape steps
+        → (index : List ℕ) × (to : List ℕ) × IsDestination region at index to
+        × MovesTo (G.dimensions source.now.grid) (H.dimensions target.now.grid) copy steps index to }
+    ensures keys { (region : Box) (at : List ℕ) (chosen : Option Box) (groups : List Group)
+        → IsCopy (G.dimensions source.now.grid) (E.is_key source.now.encoding)
+        (H.dimensions target.now.grid) (F.is_key target.now.encoding) region at (IsChosen chosen)
+        groups
+        → (copy : Part × Part) → Contains (copies_of groups) copy
         → E.is_key source.now.encoding copy.0.chunk.items copy.0.key
         × F.is_key target.now.encoding copy.1.chunk.items copy.1.key
-        × IsInside chunks copy.1.chunk.items }
-    ensures one_shape { (chunks : Box) (groups : List Group)
-        → IsRechunking (G.dimensions source.now.grid)
-        (E.is_key source.now.encoding) (H.dimensions target.now.grid) (F.is_key target.now.encoding)
-        chunks groups → (copy : Part × Part) → Contains (copies_of groups) copy
+        × IsChosen chosen copy.1.chunk.items }
+    ensures one_shape { (region : Box) (at : List ℕ) (chosen : Option Box) (groups : List Group)
+        → IsCopy (G.dimensions source.now.grid) (E.is_key source.now.encoding)
+        (H.dimensions target.now.grid) (F.is_key target.now.encoding) region at (IsChosen chosen)
+        groups
+        → (copy : Part × Part) → Contains (copies_of groups) copy
         → copy.0.in_chunk.shape ≡ copy.0.in_subset.shape }
+    ensures whole_array { (index to : List ℕ)
+        → IsDestination (array_box (H.dimensions target.now.grid))
+        (array_box (H.dimensions target.now.grid)).start index to
+        ↔ (AreBelow (array_sizes (H.dimensions target.now.grid)) index × (index ≡ to)) }
+{}
+
+/// No two groups of a copy are under one key, so each chunk of the target is written once. If a chunk is whole, each element of the target's array that
+/// it holds is written.
+pub fn each_chunk_has_one_group<
+    G: ChunkGridTraits,
+    E: ChunkKeyEncodingTraits,
+    H: ChunkGridTraits,
+    F: ChunkKeyEncodingTraits,
+>(source: &StoredArray<G, E>, target: &StoredArray<H, F>)
+    ensures one_key { (region : Box) (at : List ℕ) (chosen : Option Box) (groups : List Group)
+        → IsCopy (G.dimensions source.now.grid) (E.is_key source.now.encoding)
+        (H.dimensions target.now.grid) (F.is_key target.now.encoding) region at (IsChosen chosen)
+        groups
+        → AllPairs (λ group other. group.0.key ≢ other.0.key) groups }
+    ensures whole { (region : Box) (at : List ℕ) (chosen : Option Box) (groups : List Group)
+        → IsCopy (G.dimensions source.now.grid) (E.is_key source.now.encoding)
+        (H.dimensions target.now.grid) (F.is_key target.now.encoding) region at (IsChosen chosen)
+        groups
+        → (group : Group) → Contains groups group → IsTrue group.0.whole
+        → (index : List ℕ) → InBox (H.dimensions target.now.grid) group.0.chunk.items index
+        → AreBelow (array_sizes (H.dimensions target.now.grid)) index
+        → (copy : Part × Part) × Contains (copies_of groups) copy × ((steps : List ℕ) × (from : List ℕ)
+        × MovesTo (G.dimensions source.now.grid) (H.dimensions target.now.grid) copy steps from index) }
 {}
 
 /// A copy whose part of the source is whole, so that it has all elements of the array which that chunk holds, is the only one of this chunk. In a
@@ -245,9 +297,9 @@ pub fn the_other_way_round_has_the_same_copies<
         → (other : Part × Part) × Contains (copies_of others) other × IsExchanged copy other }
 {}
 
-/// Two rechunkings, the second of what the first one leaves, are together one: an element goes from a place in a chunk of the source to a place in a
-/// chunk of the target exactly where the first takes it to some place in some chunk between, and the second takes it from there. As each element is
-/// moved by exactly one copy of each of the three, it is written once and read once between the stages.
+/// Two rechunkings, the second of what the first one leaves, are together one. An element goes from a place in a chunk of the source to a place in a chunk
+/// of the target exactly where the first takes it to some place in some intermediate chunk, and the second takes it from there. As each element is moved by
+/// exactly one copy of each of the three, it is written once and read once between the stages.
 pub fn two_stages_are_together_one<
     G: ChunkGridTraits,
     E: ChunkKeyEncodingTraits,
@@ -276,10 +328,20 @@ pub fn two_stages_are_together_one<
         mid_chunk mid_place to_chunk to_place) }
 {}
 
-/// Where no chunk of the source and none of the target is longer than two shapes that have together at most so many elements, as those of largest
-/// chunks, the two chunks of each copy have no more. So a worker that makes a chunk of the target, and reads those of the source one after another,
-/// holds at most as many. Where all chunks of an array are of one shape, none is longer than that: so it holds of either stage by an array between
-/// whose shape fits.
+/// There are two stages by way of an intermediate array in chunks of each shape.
+pub fn there_are_two_stages<G: ChunkGridTraits, H: ChunkGridTraits>(source: &G, target: &H)
+    ensures { array_sizes (G.dimensions source.now) ≡ array_sizes (H.dimensions target.now)
+        → (shape : List ℕ) → length shape ≡ length (array_sizes (G.dimensions source.now))
+        → AllByRecursion (λ edge. 0 < edge) shape
+        → (reads : ℕ) × AreStages (G.dimensions source.now) (H.dimensions target.now) shape reads }
+{
+    all_fit(target.array_shape());
+}
+
+/// Where no chunk of the source and none of the target is longer than two shapes that have together at most so many elements, as those of largest chunks,
+/// the two chunks of each copy have no more. So a worker that makes a chunk of the target, and reads those of the source one after another, holds at most
+/// as many. Where all chunks of an array are of one shape, none is longer than that: so it holds of either stage by an intermediate array whose shape
+/// fits.
 pub fn each_line_holds_at_most<
     G: ChunkGridTraits,
     E: ChunkKeyEncodingTraits,
@@ -299,131 +361,36 @@ pub fn each_line_holds_at_most<
         → AreEqualEdges between sizes shape → NoneIsLonger between shape }
 {}
 
-/// Rechunkings into boxes of chunks that share the target's chunks out are together the whole one: each element of the array is moved by exactly
-/// one copy of exactly one of them.
-pub fn rechunkings_that_share_out_are_the_whole_one<
+/// Copies into boxes of chunks that share the target's chunks out are together the whole copy: each element of the region is moved by exactly one copy of
+/// exactly one of them.
+pub fn copies_that_share_out_are_the_whole_one<
     G: ChunkGridTraits,
     E: ChunkKeyEncodingTraits,
     H: ChunkGridTraits,
     F: ChunkKeyEncodingTraits,
 >(source: &StoredArray<G, E>, target: &StoredArray<H, F>)
-    ensures one { (boxes : List Box) (plans : List (List Group))
-        → ShareOut (H.dimensions target.now.grid) boxes → AllZip
-        (IsRechunking (G.dimensions source.now.grid) (E.is_key source.now.encoding)
-        (H.dimensions target.now.grid) (F.is_key target.now.encoding)) boxes plans
-        → (index : List ℕ) → AreBelow (array_sizes (H.dimensions target.now.grid)) index
+    ensures one { (region : Box) (at : List ℕ) → CanBeMoved
+        (array_sizes (G.dimensions source.now.grid)) (array_sizes (H.dimensions target.now.grid))
+        region at → (boxes : List Box) (plans : List (List Group))
+        → ShareOut (H.dimensions target.now.grid) (moved at region) boxes → AllZip (λ b.
+        IsCopy (G.dimensions source.now.grid) (E.is_key source.now.encoding)
+        (H.dimensions target.now.grid) (F.is_key target.now.encoding) region at (IsInside b))
+        boxes plans → (index to : List ℕ) → IsDestination region at index to
         → (copy : Part × Part) × Contains (flat_map copies_of plans) copy × ((steps : List ℕ)
-        × Moves (G.dimensions source.now.grid) (H.dimensions target.now.grid) copy steps index) }
-    ensures no_other { (boxes : List Box) (plans : List (List Group))
-        → ShareOut (H.dimensions target.now.grid) boxes → AllZip
-        (IsRechunking (G.dimensions source.now.grid) (E.is_key source.now.encoding)
-        (H.dimensions target.now.grid) (F.is_key target.now.encoding)) boxes plans
-        → AllPairs (λ copy other. (steps also index : List ℕ)
-        → Moves (G.dimensions source.now.grid) (H.dimensions target.now.grid) copy steps index
-        → Moves (G.dimensions source.now.grid) (H.dimensions target.now.grid) other also index → ⊥)
-        (flat_map copies_of plans) }
-{}
-
-/// What a walk over a region gives up to its end, each group with all of its parts, is its groups to come. Of a walk that `copies_of_region` answers
-/// these are the copy of the region.
-pub fn the_walk_gives_the_region<
-    G: ChunkGridTraits,
-    E: ChunkKeyEncodingTraits,
-    H: ChunkGridTraits,
-    F: ChunkKeyEncodingTraits,
->(source: &StoredArray<G, E>, target: &StoredArray<H, F>)
-    ensures to_come { (walk : Copies G E H F) (given : List (ChunkCopies G E))
-        (groups : List Group) → CanMove G.dimensions H.dimensions walk
-        → Drains (GivesCopies G.dimensions H.dimensions F.is_key) walk (map Ok given)
-        → AllZip (HasAllParts G.dimensions E.is_key) given groups
-        → AreMovesToCome G.dimensions E.is_key H.dimensions F.is_key walk groups }
-    ensures region { (region : Box) (at : List ℕ) (targets : Box) (walk : Copies G E H F)
-        (groups : List Group) → CanBeMoved (array_sizes (G.dimensions source.now.grid))
-        (array_sizes (H.dimensions target.now.grid)) region at → IsBox targets
-        → AreTargets (H.dimensions target.now.grid) (moved at region) AnyChunk targets
-        → targets_to_come walk ≡ chunks_in targets
-        → IsAboutCopies source.now target.now (moved at region) walk
-        → first_of walk ≡ region.start
-        → AreMovesToCome G.dimensions E.is_key H.dimensions F.is_key walk groups
-        → IsRegionCopy (G.dimensions source.now.grid) (E.is_key source.now.encoding)
-        (H.dimensions target.now.grid) (F.is_key target.now.encoding) region at groups }
-{}
-
-/// Each element of a region is moved by exactly one copy, from its place in the chunk of the source that holds it to its new place in the chunk of
-/// the target that does: as far behind the first element of the moved box as it lay behind that of the region. No two copies write one element of
-/// the target's array, or read one of the source's. Each is under the keys of its two chunks, its two boxes have one shape, and it moves nothing
-/// but elements of the region.
-pub fn each_element_of_a_region_is_copied_once<
-    G: ChunkGridTraits,
-    E: ChunkKeyEncodingTraits,
-    H: ChunkGridTraits,
-    F: ChunkKeyEncodingTraits,
->(source: &StoredArray<G, E>, target: &StoredArray<H, F>)
-    ensures one { (region : Box) (at : List ℕ) (groups : List Group) → IsBox region
-        → IsBox (moved at region) → IsRegionCopy (G.dimensions source.now.grid)
-        (E.is_key source.now.encoding) (H.dimensions target.now.grid) (F.is_key target.now.encoding)
-        region at groups → (behind : List ℕ) → AreBelow region.shape behind
-        → (copy : Part × Part) × Contains (copies_of groups) copy × ((steps : List ℕ)
-        × MovesTo (G.dimensions source.now.grid) (H.dimensions target.now.grid) copy steps
-        (counted_from region.start behind) (counted_from at behind)) }
-    ensures no_other { (region : Box) (at : List ℕ) (groups : List Group) → IsBox region
-        → IsBox (moved at region) → IsRegionCopy (G.dimensions source.now.grid)
-        (E.is_key source.now.encoding) (H.dimensions target.now.grid) (F.is_key target.now.encoding)
-        region at groups → AllPairs (λ copy other. (steps also index next to : List ℕ)
+        × MovesTo (G.dimensions source.now.grid) (H.dimensions target.now.grid) copy steps index to) }
+    ensures no_other { (region : Box) (at : List ℕ) → CanBeMoved
+        (array_sizes (G.dimensions source.now.grid)) (array_sizes (H.dimensions target.now.grid))
+        region at → (boxes : List Box) (plans : List (List Group))
+        → ShareOut (H.dimensions target.now.grid) (moved at region) boxes → AllZip (λ b.
+        IsCopy (G.dimensions source.now.grid) (E.is_key source.now.encoding)
+        (H.dimensions target.now.grid) (F.is_key target.now.encoding) region at (IsInside b))
+        boxes plans → AllPairs (λ copy other. (steps also index next to : List ℕ)
         → MovesTo (G.dimensions source.now.grid) (H.dimensions target.now.grid) copy steps index to
         → MovesTo (G.dimensions source.now.grid) (H.dimensions target.now.grid) other also next to
-        → ⊥) (copies_of groups) }
-    ensures no_other_source { (region : Box) (at : List ℕ) (groups : List Group) → IsBox region
-        → IsBox (moved at region) → IsRegionCopy (G.dimensions source.now.grid)
-        (E.is_key source.now.encoding) (H.dimensions target.now.grid) (F.is_key target.now.encoding)
-        region at groups → AllPairs (λ copy other. (steps also index to next : List ℕ)
-        → MovesTo (G.dimensions source.now.grid) (H.dimensions target.now.grid) copy steps index to
-        → MovesTo (G.dimensions source.now.grid) (H.dimensions target.now.grid) other also index
-        next → ⊥) (copies_of groups) }
-    ensures nothing_else { (region : Box) (at : List ℕ) (groups : List Group)
-        → IsRegionCopy (G.dimensions source.now.grid)
-        (E.is_key source.now.encoding) (H.dimensions target.now.grid) (F.is_key target.now.encoding)
-        region at groups → (copy : Part × Part) → Contains (copies_of groups) copy
-        → (steps : List ℕ) → AreBelow copy.0.in_chunk.shape steps → (behind : List ℕ)
-        × AreBelow region.shape behind
-        × MovesTo (G.dimensions source.now.grid) (H.dimensions target.now.grid) copy steps
-        (counted_from region.start behind) (counted_from at behind) }
-    ensures keys { (region : Box) (at : List ℕ) (groups : List Group)
-        → IsRegionCopy (G.dimensions source.now.grid)
-        (E.is_key source.now.encoding) (H.dimensions target.now.grid) (F.is_key target.now.encoding)
-        region at groups → (copy : Part × Part) → Contains (copies_of groups) copy
-        → E.is_key source.now.encoding copy.0.chunk.items copy.0.key
-        × F.is_key target.now.encoding copy.1.chunk.items copy.1.key }
-    ensures one_shape { (region : Box) (at : List ℕ) (groups : List Group)
-        → IsRegionCopy (G.dimensions source.now.grid)
-        (E.is_key source.now.encoding) (H.dimensions target.now.grid) (F.is_key target.now.encoding)
-        region at groups → (copy : Part × Part) → Contains (copies_of groups) copy
-        → copy.0.in_chunk.shape ≡ copy.0.in_subset.shape }
+        → ⊥) (flat_map copies_of plans) }
 {}
 
-/// Of the copy of a region no two groups are under one key, so each chunk of the target is written once. Where a chunk is whole, each element of the
-/// target's array that it holds is written.
-pub fn each_chunk_of_a_region_has_one_group<
-    G: ChunkGridTraits,
-    E: ChunkKeyEncodingTraits,
-    H: ChunkGridTraits,
-    F: ChunkKeyEncodingTraits,
->(source: &StoredArray<G, E>, target: &StoredArray<H, F>)
-    ensures one_key { (region : Box) (at : List ℕ) (groups : List Group)
-        → IsRegionCopy (G.dimensions source.now.grid)
-        (E.is_key source.now.encoding) (H.dimensions target.now.grid) (F.is_key target.now.encoding)
-        region at groups → AllPairs (λ group other. group.0.key ≢ other.0.key) groups }
-    ensures whole { (region : Box) (at : List ℕ) (groups : List Group) → IsBox region
-        → IsBox (moved at region) → IsRegionCopy (G.dimensions source.now.grid)
-        (E.is_key source.now.encoding) (H.dimensions target.now.grid) (F.is_key target.now.encoding)
-        region at groups → (group : Group) → Contains groups group → IsTrue group.0.whole
-        → (index : List ℕ) → InBox (H.dimensions target.now.grid) group.0.chunk.items index
-        → AreBelow (array_sizes (H.dimensions target.now.grid)) index
-        → (copy : Part × Part) × Contains (copies_of groups) copy × ((steps : List ℕ) × (from : List ℕ)
-        × MovesTo (G.dimensions source.now.grid) (H.dimensions target.now.grid) copy steps from index) }
-{}
-
-/// Each box of elements that has a cover has a plan. There is a rechunking into the chunks of each box, and a copy of each region that lies in both
+/// Each box of elements that has a cover has a plan, and so does an empty one. There is a copy, into any chosen chunks, of each region that lies in both
 /// arrays. So no law above is about nothing: every encoding has a key of each chunk.
 pub fn there_is_a_plan<
     G: ChunkGridTraits,
@@ -434,20 +401,16 @@ pub fn there_is_a_plan<
     ensures of_a_read { (elements cover : Box) → IsBox elements → (¬ IsEmptyBox elements)
         → IsCover (G.dimensions source.now.grid) elements cover → (parts : List Part)
         × IsPlan (G.dimensions source.now.grid) (E.is_key source.now.encoding) elements parts }
-    ensures of_a_rechunking { array_sizes (G.dimensions source.now.grid)
-        ≡ array_sizes (H.dimensions target.now.grid)
-        → IsBox (array_box (H.dimensions target.now.grid)) → (chunks targets : Box) → IsBox targets
-        → AreTargets (H.dimensions target.now.grid) (array_box (H.dimensions target.now.grid))
-        (IsInside chunks) targets → (groups : List Group)
-        × IsRechunking (G.dimensions source.now.grid) (E.is_key source.now.encoding)
-        (H.dimensions target.now.grid) (F.is_key target.now.encoding) chunks groups }
-    ensures of_a_region { (region targets : Box) (at : List ℕ) → IsBox region
+    ensures of_nothing { (elements : Box) → IsEmptyBox elements
+        → IsPlan (G.dimensions source.now.grid) (E.is_key source.now.encoding) elements [] }
+    ensures of_a_copy { (region targets : Box) (at : List ℕ) (chosen : Option Box) → IsBox region
         → IsBox (moved at region) → CanBeMoved (array_sizes (G.dimensions source.now.grid))
         (array_sizes (H.dimensions target.now.grid)) region at → IsBox targets
-        → AreTargets (H.dimensions target.now.grid) (moved at region) AnyChunk targets
-        → (groups : List Group) × IsRegionCopy (G.dimensions source.now.grid)
-        (E.is_key source.now.encoding) (H.dimensions target.now.grid) (F.is_key target.now.encoding)
-        region at groups }
+        → AreTargets (H.dimensions target.now.grid) (moved at region) (IsChosen chosen) targets
+        → (groups : List Group)
+        × IsCopy (G.dimensions source.now.grid) (E.is_key source.now.encoding)
+        (H.dimensions target.now.grid) (F.is_key target.now.encoding) region at (IsChosen chosen)
+        groups }
 {}
 
 /// Grids that one configuration makes of two array shapes, of whatever kind it is, hold each index that both arrays have in the same chunk. So they
@@ -512,6 +475,22 @@ pub fn each_chunk_has_one_change<G: ChunkGridTraits, H: ChunkGridTraits, E: Chun
     ensures no_other { (chunk : List ℕ) (what other : Change)
         → IsChanged (G.dimensions before.now) (H.dimensions after.now) chunk what
         → IsChanged (G.dimensions before.now) (H.dimensions after.now) chunk other → what ≡ other }
+{
+    all_fit(before.array_shape());
+    all_fit(after.array_shape());
+}
+
+/// There is a plan of each resize whose chunks are known, as [`changes`](crate::changes) and [`changed_chunks`](crate::changed_chunks) find them.
+pub fn there_is_a_resize<G: ChunkGridTraits, H: ChunkGridTraits, E: ChunkKeyEncodingTraits>(
+    before: &G,
+    after: &H,
+    encoding: &E,
+)
+    ensures { (uses : ChangedChunks) (keeps : Bool) (chunks : List (List ℕ))
+        → AreChangedChunks (G.dimensions before.now) (H.dimensions after.now) uses
+        → AreChanged (G.dimensions before.now) (H.dimensions after.now) keeps chunks
+        → (changes : List ChunkChange) × IsResizePlan (G.dimensions before.now)
+        (H.dimensions after.now) (E.is_key encoding.now) keeps changes }
 {
     all_fit(before.array_shape());
     all_fit(after.array_shape());

@@ -3,15 +3,14 @@ use crate::rows::{row, some_of};
 use std::test::Fail;
 use zarrs_chunk_plan::laws::{
     a_kept_chunk_is_as_it_was, a_whole_part_is_the_only_one_of_its_chunk,
-    byte_ranges_have_the_bytes_of_the_box, each_chunk_has_one_change,
-    each_chunk_of_a_region_has_one_group, each_element_is_copied_once,
-    each_element_lies_in_one_part, each_element_of_a_region_is_copied_once,
-    each_element_stays_in_its_chunk, each_element_that_leaves_or_comes_changes_its_chunk,
-    each_line_holds_at_most, grids_of_one_configuration_share_their_chunks,
-    no_two_parts_have_one_key, rechunkings_that_share_out_are_the_whole_one,
+    byte_ranges_have_the_bytes_of_the_box, copies_that_share_out_are_the_whole_one,
+    each_chunk_has_one_change, each_chunk_has_one_group, each_element_is_copied_once,
+    each_element_lies_in_one_part, each_element_stays_in_its_chunk,
+    each_element_that_leaves_or_comes_changes_its_chunk, each_line_holds_at_most,
+    grids_of_one_configuration_share_their_chunks, no_two_parts_have_one_key,
     shares_are_together_the_plan, the_other_way_round_has_the_same_copies, the_parts_tile_the_box,
-    the_walk_gives_the_plan, the_walk_gives_the_rechunking, the_walk_gives_the_region,
-    the_walk_gives_the_resize, there_is_a_plan, two_stages_are_together_one,
+    the_walk_gives_the_copy, the_walk_gives_the_plan, the_walk_gives_the_resize,
+    there_are_two_stages, there_is_a_plan, there_is_a_resize, two_stages_are_together_one,
 };
 
 #[test]
@@ -27,25 +26,18 @@ fn of_reads(rt: HostRuntime) -> Result<(), Fail> {
 }
 
 #[test]
-fn of_rechunkings(rt: HostRuntime) -> Result<(), Fail> {
+fn of_copies(rt: HostRuntime) -> Result<(), Fail> {
     let (source, target) = (row(rt.alloc(), 7, 4)?, row(rt.alloc(), 7, 3)?);
-    the_walk_gives_the_rechunking(&source, &target);
+    the_walk_gives_the_copy(&source, &target);
     each_element_is_copied_once(&source, &target);
+    each_chunk_has_one_group(&source, &target);
     a_whole_part_is_the_only_one_of_its_chunk(&source, &target);
     the_other_way_round_has_the_same_copies(&source, &target);
     two_stages_are_together_one(&source, &target, &source);
+    there_are_two_stages(&source.grid, &target.grid);
     each_line_holds_at_most(&source, &target);
-    rechunkings_that_share_out_are_the_whole_one(&source, &target);
+    copies_that_share_out_are_the_whole_one(&source, &target);
     there_is_a_plan(&source, &target);
-    Ok(())
-}
-
-#[test]
-fn of_regions(rt: HostRuntime) -> Result<(), Fail> {
-    let (source, target) = (row(rt.alloc(), 7, 4)?, row(rt.alloc(), 7, 3)?);
-    the_walk_gives_the_region(&source, &target);
-    each_element_of_a_region_is_copied_once(&source, &target);
-    each_chunk_of_a_region_has_one_group(&source, &target);
     Ok(())
 }
 
@@ -54,6 +46,7 @@ fn of_resizes(rt: HostRuntime) -> Result<(), Fail> {
     let (seven, ten) = (row(rt.alloc(), 7, 3)?, row(rt.alloc(), 10, 3)?);
     grids_of_one_configuration_share_their_chunks();
     the_walk_gives_the_resize(&seven.grid, &ten.grid, &seven.encoding);
+    there_is_a_resize(&seven.grid, &ten.grid, &seven.encoding);
     each_chunk_has_one_change(&seven.grid, &ten.grid, &seven.encoding);
     a_kept_chunk_is_as_it_was(&seven.grid, &ten.grid);
     each_element_stays_in_its_chunk(&seven.grid, &ten.grid);

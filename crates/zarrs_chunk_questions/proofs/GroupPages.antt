@@ -1,27 +1,28 @@
 -- The groups of a plan: those that came of a walk, and the page of some of them.
-use Rattle.std.proofs.Common.{◌≡◌, ◌≢◌, ◌∙◌, ℕ, ◌-◌, ◌≤◌, List, [], ◌∷◌, ◌++◌, IfSome, Option, Some, None, ap, ap₂, append-nil, drop, length, map}
+use Rattle.std.proofs.Common.{◌≡◌, ◌∙◌, ℕ, ◌+◌, ◌*◌, ◌-◌, ◌≤◌, List, [], ◌∷◌, ◌++◌, ap, ap₂, append-nil, drop, length, map}
 use Rattle.std.proofs.Common.{min, refl, subst, sym, take, arith}
 use Rattle.std.proofs.Math.Seq.{take-append_seam}
 use Rattle.std.proofs.lemmas.List.{length-map, map-append, take_all}
 use Rattle.std.proofs.lemmas.Slice.Zip.{AllZip-long}
-use Rattle.std.specs.List.{AllZip}
+use Rattle.std.specs.List.{AllByRecursion, AllZip}
 use Rattle.serde_json.specs.Data.{Data}
 use Rattle.serde_json.specs.View.{view}
 use Rattle.serde_json.specs.declared.value.Value.{Value}
 use Rattle.zarrs_chunk_base.specs.ArraySubset.{Box, IsBox}
-use Rattle.zarrs_chunk_base.specs.Dimension.{Dimension}
+use Rattle.zarrs_chunk_base.specs.Dimension.{Dimension, IsChain, array_sizes}
 use Rattle.zarrs_chunks.specs.Walks.{chunks_in}
 use Rattle.zarrs_chunk_parts.specs.Plan.{Meets}
 use Rattle.zarrs_chunk_plan.specs.Rechunking.{AreTargets, Group}
-use Rattle.zarrs_chunk_plan.specs.Region.{AreMovedInto, moved}
+use Rattle.zarrs_chunk_plan.specs.Region.{AreMovedInto, LiesIn, moved}
 use Rattle.zarrs_chunk_plan.specs.SomeCopies.{AreSomeGroups}
 use Rattle.zarrs_chunk_plan.specs.declared.copy.chunk_copies.Copies.{Copies}
 use Rattle.zarrs_chunk_plan.specs.seen.Copies.{CanMove, IsAboutCopies, first_of, target_of, targets_to_come}
-use Rattle.zarrs_chunk_questions.specs.Pages.{count_of, is_more, page_tree}
+use Rattle.zarrs_chunk_questions.specs.Pages.{chunks_from, count_of, is_more, page_tree}
 use Rattle.zarrs_chunk_questions.specs.declared.plan_trees.PlanOf.{PlanOf}
-use Rattle.zarrs_chunk_questions.specs.seen.Groups.{IsGroupIn, IsPageOfGroups, tree_in}
-use Rattle.zarrs_chunk_questions.proofs.Listed.{all_behind}
-use Rattle.zarrs_chunk_questions.proofs.SomeItems.{all_wanted}
+use Rattle.zarrs_chunk_questions.specs.seen.Groups.{IsGroupIn, IsPageOfGroups, parts_in, tree_in}
+use Rattle.zarrs_chunk_questions.proofs.Lengths.{text_long}
+use Rattle.zarrs_chunk_questions.proofs.Listed.{all_behind, all_taken}
+use Rattle.zarrs_chunk_questions.proofs.LongPages.{long_groups, part_least}
 
 -- ---- what came of a walk
 
@@ -79,25 +80,47 @@ module _ {G E H F : Type 0} (source_dimensions : G → List Dimension) (source_k
 
 -- ---- pages
 
+-- what was asked for, of all chunks that a number counts
+asked_groups : (IsGroup : List ℕ → Group → Type 0) (chunks : List (List ℕ)) (first most count in_all : ℕ) (groups : List Group)
+    → in_all ≡ count_of chunks → count ≡ min most (in_all - first) → AllZip IsGroup (take count (drop first chunks)) groups
+    → AllZip IsGroup (chunks_from first most chunks) groups
+asked_groups IsGroup chunks first most count in_all groups counted wanted are =
+    let same : count ≡ min (count_of chunks - first) most = rw (← counted) (omega arith) in
+    subst (λ n. AllZip IsGroup (take n (drop first chunks)) groups) same are
+
 -- the page of the groups that were made
-pub groups_page : (plan : PlanOf) (IsGroup : List ℕ → Group → Type 0) (chunks : List (List ℕ)) (first most too_many count given in_all : ℕ)
-    (trees : List Value) (page : Option Value) → in_all ≡ count_of chunks → count ≡ min (min most too_many) (in_all - first)
-    → (groups : List Group) × AllZip IsGroup (take count (drop first chunks)) groups × (map view trees ≡ map (tree_in plan) groups)
-    → given ≡ length trees
-    → IfSome page (λ tree. (given ≢ too_many) × (view tree ≡ page_tree (map view trees) (is_more first given in_all)))
-    → IfSome page (λ tree. IsPageOfGroups plan IsGroup chunks first most (view tree))
-groups_page plan IsGroup chunks first most too_many count given in_all trees None counted wanted made many is = tt
-groups_page plan IsGroup chunks first most too_many count given in_all trees (Some tree) counted wanted (groups, zipped, written) many (few, is) =
-    let as_many = as_many_trees plan trees groups written in
-    let fewer : length groups ≢ too_many = λ same. few (many ∙ sym as_many ∙ same) in
-    let within : in_all ≤ length chunks = omega arith in
-    let same : count ≡ min (in_all - first) (min most too_many) = omega arith in
-    let all = all_wanted IsGroup chunks groups first most too_many in_all within (rw same at zipped) fewer in (
+pub groups_page : (plan : PlanOf) (IsGroup : List ℕ → Group → Type 0) (chunks : List (List ℕ)) (first most count given in_all : ℕ)
+    (trees : List Value) (t : Data) → in_all ≡ count_of chunks → count ≡ min most (in_all - first)
+    → (groups : List Group) → AllZip IsGroup (take count (drop first chunks)) groups → map view trees ≡ map (tree_in plan) groups
+    → given ≡ length trees → t ≡ page_tree (map view trees) (is_more first given in_all) → IsPageOfGroups plan IsGroup chunks first most t
+groups_page plan IsGroup chunks first most count given in_all trees t counted wanted groups zipped written many is =
+    let as_many = as_many_trees plan trees groups written in (
       groups,
-      subst (λ n. AllZip IsGroup (take (min (n - first) most) (drop first chunks)) groups) counted all,
+      asked_groups IsGroup chunks first most count in_all groups counted wanted zipped,
       is ∙ ap₂ (λ xs n. page_tree xs (is_more first n in_all)) written (many ∙ sym as_many)
           ∙ ap (λ n. page_tree (map (tree_in plan) groups) (is_more first (length groups) n)) counted,
     )
+
+-- where they have too many parts, the page is as long
+module _ (source : List Dimension) (IsSourceKey : List ℕ → List ℕ → Type 0) (target : List Dimension) (IsTargetKey : List ℕ → List ℕ → Type 0)
+    (chains : AllByRecursion IsChain source) (region : Box) (at : List ℕ) (is_region : IsBox region) (is_moved : IsBox (moved at region))
+    (lies : LiesIn region (array_sizes source)) where
+  pub long_groups_page : (plan : PlanOf) (chunks : List (List ℕ)) (first most count in_all too_many : ℕ) (groups : List Group)
+      → AllByRecursion (Meets target (moved at region)) chunks → in_all ≡ count_of chunks → count ≡ min most (in_all - first)
+      → AllZip (AreMovedInto source IsSourceKey target IsTargetKey region at) (take count (drop first chunks)) groups → too_many ≤ parts_in groups
+      → (t : Data) × IsPageOfGroups plan (AreMovedInto source IsSourceKey target IsTargetKey region at) chunks first most t
+      × (too_many * part_least source ≤ text_long t)
+  long_groups_page plan chunks first most count in_all too_many groups meet counted wanted are many =
+      let IsGroup = AreMovedInto source IsSourceKey target IsTargetKey region at in
+      let asked = take count (drop first chunks) in
+      let meets = all_taken (Meets target (moved at region)) count (drop first chunks)
+      (all_behind (Meets target (moved at region)) first chunks meet)
+      in
+      let more = is_more first (length groups) (count_of chunks) in (
+        page_tree (map (tree_in plan) groups) more,
+        (groups, asked_groups IsGroup chunks first most count in_all groups counted wanted are, refl),
+        long_groups source IsSourceKey target IsTargetKey chains region at is_region is_moved lies plan asked groups too_many more are meets many,
+      )
 
 -- of a copy into chosen chunks
 pub copy_page : (plan : PlanOf) (source : List Dimension) (IsSourceKey : List ℕ → List ℕ → Type 0) (target : List Dimension)

@@ -9,3 +9,6 @@ pub mod WalkPages
 pub mod RechunkingsAsked
 pub mod RegionsAsked
 pub mod NoFloats
+pub mod Lengths
+pub mod LongPages
+pub mod Ahead

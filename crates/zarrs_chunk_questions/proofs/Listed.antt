@@ -1,15 +1,13 @@
 -- Some of the chunks in a list, as they were listed.
-use Rattle.std.proofs.Common.{◌≡◌, ◌≢◌, ℕ, zero, suc, ◌-◌, ◌≤◌, List, [], ◌∷◌, ap₂, drop, length, map, min, refl, subst, sym, take, arith}
+use Rattle.std.proofs.Common.{◌≡◌, ℕ, zero, suc, ◌-◌, List, [], ◌∷◌, ap₂, drop, map, min, refl, subst, sym, take}
 use Rattle.std.specs.List.{AllByRecursion, AllZip}
 use Rattle.zarrs_chunk_base.specs.ArraySubset.{Box}
-use Rattle.zarrs_chunk_base.specs.Greatest.{greatest}
 use Rattle.zarrs_chunks.specs.Walks.{chunks_in}
 use Rattle.zarrs_chunk_plan.specs.SomeChunks.{AreSomeChunks}
 use Rattle.zarrs_chunk_plan.specs.declared.shares.numbered_chunks.SomeChunks.{SomeChunks}
-use Rattle.zarrs_chunk_questions.proofs.SomeItems.{all_wanted}
 
 -- what holds of each holds of those taken, and of those behind them
-all_taken : {X : Type 0} (P : X → Type 0) (count : ℕ) (xs : List X) → AllByRecursion P xs → AllByRecursion P (take count xs)
+pub all_taken : {X : Type 0} (P : X → Type 0) (count : ℕ) (xs : List X) → AllByRecursion P xs → AllByRecursion P (take count xs)
 all_taken P zero xs all = tt
 all_taken P (suc count) [] all = tt
 all_taken P (suc count) (x ∷ xs) all = (all.0, all_taken P count xs all.1)
@@ -46,11 +44,3 @@ module _ (box : Box) (first : ℕ) (some : SomeChunks) where
   each_of_some P most are all =
       each_listed (λ chunk. chunk.items) P (take (min (some.in_all - first) most) (drop first (chunks_in box))) some.chunks.items
       (all_taken P (min (some.in_all - first) most) (drop first (chunks_in box)) (all_behind P first (chunks_in box) all)) are.are_chunks
-
-  -- where they aren't too many, they are all that were wanted
-  pub wanted_chunks : (most too_many : ℕ) → AreSomeChunks box first (min most too_many) some → length some.chunks.items ≢ too_many
-      → AllZip (λ numbers chunk. chunk.items ≡ numbers) (take (min (some.in_all - first) most) (drop first (chunks_in box))) some.chunks.items
-  wanted_chunks most too_many are few =
-      let in_all : some.in_all ≡ min (length (chunks_in box)) greatest = are.in_all in
-      let within : some.in_all ≤ length (chunks_in box) = omega arith in
-      all_wanted (λ numbers chunk. chunk.items ≡ numbers) (chunks_in box) some.chunks.items first most too_many some.in_all within are.are_chunks few

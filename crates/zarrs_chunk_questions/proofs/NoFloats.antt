@@ -18,7 +18,7 @@ use Rattle.zarrs_chunk_plan.specs.Rechunking.{Group}
 use Rattle.zarrs_chunk_plan.specs.Region.{shifted}
 use Rattle.zarrs_chunk_plan.specs.declared.bytes.ranges.ByteRanges.{ByteRanges}
 use Rattle.zarrs_chunk_plan.specs.declared.counts.of_plans.Counts.{Counts}
-use Rattle.zarrs_chunk_plan.specs.declared.read.numbered_parts.SomeParts.{SomeParts}
+use Rattle.zarrs_chunk_parts.specs.declared.part.Part.{Part}
 use Rattle.zarrs_chunk_questions.specs.Answers.{IsAnswer, IsArrayAnswer, IsBoxAnswer, IsGridAnswer, IsNumbersAnswer}
 use Rattle.zarrs_chunk_questions.specs.Bytes.{ranges_tree}
 use Rattle.zarrs_chunk_questions.specs.Counts.{counts_tree, line_number_tree}
@@ -96,10 +96,10 @@ of_part : (chunk : List ℕ) (b other : Box)
     → (has_float (numbers_tree chunk) || (has_float (box_tree b) || (has_float (box_tree other) || (false || false)))) ≡ false
 of_part chunk b other = grind (arith, no_float_in_numbers, a_box)
 
-of_some_parts : (first : ℕ) (some : SomeParts) → HasNone (parts_tree first some)
-of_some_parts first some =
-    of_page (map part_tree some.parts.items) (is_more first (length some.parts.items) some.in_all)
-    (no_float_mapped part_tree (λ part. of_part part.chunk.items part.in_chunk part.in_subset) some.parts.items)
+of_some_parts : (first in_all : ℕ) (parts : List Part) → HasNone (parts_tree first in_all parts)
+of_some_parts first in_all parts =
+    of_page (map part_tree parts) (is_more first (length parts) in_all)
+    (no_float_mapped part_tree (λ part. of_part part.chunk.items part.in_chunk part.in_subset) parts)
 
 a_group : (group : Group) → HasNone (group_tree group)
 a_group group =

@@ -1,9 +1,9 @@
 -- The items of a walk over the chunks of a grid: the first ones, and those of chunks from one of them on.
-use Rattle.std.proofs.Common.{◌≡◌, ◌≢◌, ◌∙◌, ℕ, ◌-◌, IfSome, List, [], ◌∷◌, Option, Some, None, Result}
-use Rattle.std.proofs.Common.{Ok, IfOk, ap, ap₂, cond}
-use Rattle.std.proofs.Common.{drop, length, map, min, refl, replicate, subst, sym, take}
-use Rattle.std.proofs.lemmas.List.{length-map}
-use Rattle.std.specs.List.{AllByRecursion}
+use Rattle.std.proofs.Common.{◌≡◌, ◌∙◌, ℕ, zero, suc, ◌+◌, ◌-◌, ◌<◌, ◌≤◌, Bool, true, false, List, [], ◌∷◌, ◌++◌, Option, Some, None, Result}
+use Rattle.std.proofs.Common.{Err, Ok, IfOk, ap, ap₂, arith, cond, option_to_list, slice_get}
+use Rattle.std.proofs.Common.{drop, length, length-append, map, min, refl, replicate, subst, sym, take}
+use Rattle.std.proofs.lemmas.List.{length-drop, length-map, length-take, map-append}
+use Rattle.std.specs.List.{AllByRecursion, filter}
 use Rattle.std.specs.declared.alloc.AllocError.{AllocError}
 use Rattle.serde_json.specs.Data.{Data}
 use Rattle.serde_json.specs.View.{view}
@@ -13,7 +13,7 @@ use Rattle.zarrs_chunk_axes.specs.InBounds.{AreBelow}
 use Rattle.zarrs_chunk_axes.specs.RowMajor.{row_major}
 use Rattle.zarrs_chunk_axes.proofs.RowMajor.{all_below, all_follow}
 use Rattle.zarrs_chunks.specs.Subsets.{AnswersSubset, LookedBox}
-use Rattle.zarrs_chunks.specs.Walks.{box_at, boxed, chunks_in, chunks_of, counted_from}
+use Rattle.zarrs_chunks.specs.Walks.{box_at, boxed, chunks_in, chunks_of, counted_from, ends_within}
 use Rattle.zarrs_chunks.proofs.ChunksInBoxes.{length_below}
 use Rattle.zarrs_chunks.proofs.FittingChunks.{box_fits, box_is, found_box, found_none, no_box}
 use Rattle.zarrs_chunk_base.specs.ArraySubset.{Box}
@@ -21,18 +21,18 @@ use Rattle.zarrs_chunk_plan.specs.Rechunking.{all_chunks_box}
 use Rattle.zarrs_chunk_plan.specs.SomeChunks.{AreSomeChunks}
 use Rattle.zarrs_chunk_plan.specs.declared.shares.numbered_chunks.SomeChunks.{SomeChunks}
 use Rattle.zarrs_chunk_plan.proofs.Rechunkings.{counted_from_zeros}
-use Rattle.zarrs_chunk_questions.specs.Pages.{chunks_from, first_page, is_more, item_trees, count_of, page_from, page_tree}
+use Rattle.zarrs_chunk_questions.specs.Pages.{chunks_from, is_more, item_tree, item_trees, count_of, page_from, page_tree}
 use Rattle.zarrs_chunk_questions.specs.declared.call.WalkOf.{WalkOf}
-use Rattle.zarrs_chunk_questions.proofs.Listed.{numbers_are, wanted_chunks}
+use Rattle.zarrs_chunk_questions.specs.declared.call.WalkOf.TheVariants.{Boxes, Chunks, ChunksAndBoxes}
+use Rattle.zarrs_chunk_questions.specs.seen.Walked.{IsFirstPage, IsItemOf}
+use Rattle.zarrs_chunk_questions.proofs.Listed.{numbers_are}
 
 -- ---- from the beginning
 
 -- of all that a walk has left
-pub first_of_all : (most : ℕ) (left items : List Data) → left ≡ items → (result : Result (Option Value) AllocError)
-    → IfOk result (λ found. IfSome found (λ tree. view tree ≡ first_page most left))
-    → IfOk result (λ found. IfSome found (λ tree. view tree ≡ first_page most items))
-first_of_all most left items same result is =
-    subst (λ xs. IfOk result (λ found. IfSome found (λ tree. view tree ≡ first_page most xs))) same is
+pub first_of_all : (most too_many : ℕ) (left items : List Data) → left ≡ items → (result : Result (Option Value) AllocError)
+    → IfOk result (IsFirstPage most too_many left) → IfOk result (IsFirstPage most too_many items)
+first_of_all most too_many left items same result is = subst (λ xs. IfOk result (IsFirstPage most too_many xs)) same is
 
 pub each_of_each : {X Y Z : Type 0} (f : X → Y) (tree : Y → Z) (xs : List X) → map tree (map f xs) ≡ map (λ x. tree (f x)) xs
 each_of_each f tree [] = refl
@@ -51,8 +51,6 @@ module _ (ds : List Dimension) (chunk : List ℕ) (answer : LookedBox) (answers 
   pub without_box : AllByRecursion IsChain ds → AreBelow (grid_sizes ds) chunk → answer ≡ Ok None → boxed ds (chunk ∷ []) ≡ []
   without_box chains below none =
       ap (λ fits. cond fits (chunk ∷ []) []) (no_box ds chunk chains below (found_none ds chunk answer answers none))
-
--- ---- of one chunk more
 
 -- ---- of the chunks that a grid counts
 
@@ -74,30 +72,169 @@ pub all_below_grid : (ds : List Dimension) → AllByRecursion (AreBelow (grid_si
 all_below_grid ds = rw (all_counted ds) (all_below (grid_sizes ds))
 
 -- the chunks that were wanted
-pub chunks_wanted : (ds : List Dimension) (first most too_many : ℕ) (some : SomeChunks)
-    → AreSomeChunks (all_chunks_box ds) first (min most too_many) some → length some.chunks.items ≢ too_many
+pub chunks_wanted : (ds : List Dimension) (first most : ℕ) (some : SomeChunks) → AreSomeChunks (all_chunks_box ds) first most some
     → (some.in_all ≡ count_of (chunks_of ds)) × (map (λ chunk. chunk.items) some.chunks.items ≡ chunks_from first most (chunks_of ds))
-chunks_wanted ds first most too_many some are few =
+chunks_wanted ds first most some are =
     let in_all : some.in_all ≡ count_of (chunks_of ds) = are.in_all ∙ ap count_of (all_counted ds) in
-    let wanted = wanted_chunks (all_chunks_box ds) first some most too_many are few in
     let listed =
     numbers_are (λ chunk. chunk.items) (take (min (some.in_all - first) most) (drop first (chunks_in (all_chunks_box ds))))
-    some.chunks.items wanted in (
+    some.chunks.items are.are_chunks in (
       in_all,
       listed ∙ ap₂ (λ count chunks. take (min (count - first) most) (drop first chunks)) in_all (all_counted ds),
     )
 
--- the page of their items
-pub walked_page : (walk : WalkOf) (ds : List Dimension) (first most too_many count : ℕ) (some : SomeChunks) (items : List Data) (page : Option Value)
-    → AreSomeChunks (all_chunks_box ds) first (min most too_many) some
-    → items ≡ item_trees walk ds (map (λ chunk. chunk.items) some.chunks.items) → count ≡ length some.chunks.items
-    → IfSome page (λ tree. (count ≢ too_many) × (view tree ≡ page_tree items (is_more first count some.in_all)))
-    → IfSome page (λ tree. view tree ≡ page_from walk ds first most)
-walked_page walk ds first most too_many count some items None are made counted is = tt
-walked_page walk ds first most too_many count some items (Some tree) are made counted (few, is) =
-    let fewer : length some.chunks.items ≢ too_many = rw counted at few in
-    let (in_all, same) = chunks_wanted ds first most too_many some are fewer in
-    let chunks = chunks_from first most (chunks_of ds) in
-    let long : count ≡ length chunks = counted ∙ sym (length-map some.chunks.items (λ chunk. chunk.items)) ∙ ap length same in
-    is ∙ ap (λ xs. page_tree xs (is_more first count some.in_all)) (made ∙ ap (item_trees walk ds) same)
-    ∙ ap₂ (λ n all. page_tree (item_trees walk ds chunks) (is_more first n all)) long in_all
+-- ---- the items of chunks, one chunk after another
+
+filter_append : {X : Type 0} (p : X → Bool) (xs ys : List X) → filter p (xs ++ ys) ≡ filter p xs ++ filter p ys
+filter_append p [] ys = refl
+filter_append p (x ∷ xs) ys = more (p x) (filter_append p xs ys) where
+  more : (b : Bool) → filter p (xs ++ ys) ≡ filter p xs ++ filter p ys → cond b (x ∷ filter p (xs ++ ys)) (filter p (xs ++ ys)) ≡ cond b (x ∷ filter p xs) (filter p xs) ++ filter p ys
+  more true rest = ap (λ zs. x ∷ zs) rest
+  more false rest = rest
+
+pub no_items : (walk : WalkOf) (ds : List Dimension) → item_trees walk ds [] ≡ []
+no_items Chunks ds = refl
+no_items Boxes ds = refl
+no_items ChunksAndBoxes ds = refl
+
+pub items_append : (walk : WalkOf) (ds : List Dimension) (xs ys : List (List ℕ))
+    → item_trees walk ds (xs ++ ys) ≡ item_trees walk ds xs ++ item_trees walk ds ys
+items_append Chunks ds xs ys = map-append (item_tree Chunks ds) xs ys
+items_append Boxes ds xs ys =
+    ap (map (item_tree Boxes ds)) (filter_append (ends_within ds) xs ys) ∙ map-append (item_tree Boxes ds) (boxed ds xs) (boxed ds ys)
+items_append ChunksAndBoxes ds xs ys =
+    ap (map (item_tree ChunksAndBoxes ds)) (filter_append (ends_within ds) xs ys)
+    ∙ map-append (item_tree ChunksAndBoxes ds) (boxed ds xs) (boxed ds ys)
+
+none_taken : (n : ℕ) (xs : List (List ℕ)) → xs ≡ [] → take n xs ≡ xs
+none_taken zero xs is = sym is
+none_taken (suc n) [] is = refl
+none_taken (suc n) (x ∷ xs) is = let long = ap length is in absurd (omega arith)
+
+-- those of fewer chunks are no more
+pub fewer_items : (walk : WalkOf) (ds : List Dimension) (few many : ℕ) (xs : List (List ℕ)) → few ≤ many
+    → length (item_trees walk ds (take few xs)) ≤ length (item_trees walk ds (take many xs))
+fewer_items walk ds few many xs le =
+    let same : take many xs ≡ take few xs ++ take (many - few) (drop few xs) = take_parts few many xs le in
+    let both = ap length (ap (item_trees walk ds) same ∙ items_append walk ds (take few xs) (take (many - few) (drop few xs))) in
+    let sum = length-append (item_trees walk ds (take few xs)) (item_trees walk ds (take (many - few) (drop few xs))) in
+    omega arith
+  where
+    take_parts : (few many : ℕ) (xs : List (List ℕ)) → few ≤ many → take many xs ≡ take few xs ++ take (many - few) (drop few xs)
+    take_parts zero many xs le = let same : many - 0 ≡ many = omega arith in rw same refl
+    take_parts (suc few) zero xs le = absurd (omega arith)
+    take_parts (suc few) (suc many) [] le = sym (none_taken (suc many - suc few) [] refl)
+    take_parts (suc few) (suc many) (x ∷ xs) le =
+        let less : suc many - suc few ≡ many - few = omega arith in
+        rw less (ap (λ ys. x ∷ ys) (take_parts few many xs (omega arith)))
+
+-- the items of a chunk with a number
+module _ (walk : WalkOf) (ds : List Dimension) (number : ℕ) (some : SomeChunks) (are : AreSomeChunks (all_chunks_box ds) number 1 some) where
+  at_most_one : length some.chunks.items ≤ 1
+  at_most_one =
+      let long = ap length (chunks_wanted ds number 1 some are).1 in
+      let mapped = length-map some.chunks.items (λ chunk. chunk.items) in
+      let taken = length-take (min (count_of (chunks_of ds) - number) 1) (drop number (chunks_of ds)) in
+      omega arith
+
+  pub item_of_none : length some.chunks.items ≡ 0 → [] ≡ item_trees walk ds (chunks_from number 1 (chunks_of ds))
+  item_of_none none =
+      let same = (chunks_wanted ds number 1 some are).1 in
+      let empty = none_listed some.chunks.items none in
+      sym (ap (item_trees walk ds) (sym same ∙ ap (map (λ chunk. chunk.items)) empty) ∙ no_items walk ds)
+    where
+      none_listed : {X : Type 0} (xs : List X) → length xs ≡ 0 → xs ≡ []
+      none_listed [] same = refl
+      none_listed (x ∷ xs) same = absurd (omega arith)
+
+  pub item_of_one : (chunk : List ℕ) (found : Option Value) → slice_get (map (λ chunk. chunk.items) some.chunks.items) 0 ≡ Some chunk
+      → IsItemOf walk ds chunk found → map view (option_to_list found) ≡ item_trees walk ds (chunks_from number 1 (chunks_of ds))
+  item_of_one chunk found first is =
+      let same = (chunks_wanted ds number 1 some are).1 in
+      let mapped = length-map some.chunks.items (λ chunk. chunk.items) in
+      let few = at_most_one in
+      let one = one_listed (map (λ chunk. chunk.items) some.chunks.items) chunk (omega arith) first in
+      of_found found is ∙ ap (item_trees walk ds) (sym one ∙ same)
+    where
+      one_listed : {X : Type 0} (xs : List X) (x : X) → length xs ≤ 1 → slice_get xs 0 ≡ Some x → xs ≡ x ∷ []
+      one_listed [] x few is = absurd (grind arith)
+      one_listed (y ∷ []) x few is = ap (λ z. z ∷ []) (grind arith)
+      one_listed (y ∷ z ∷ xs) x few is = absurd (omega arith)
+
+      of_found : (found : Option Value) → IsItemOf walk ds chunk found → map view (option_to_list found) ≡ item_trees walk ds (chunk ∷ [])
+      of_found (Some item) is = sym is
+      of_found None is = sym is
+
+  -- of what was made
+  pub items_of_one : (chunk : List ℕ) (result : Result (Option Value) AllocError)
+      → slice_get (map (λ chunk. chunk.items) some.chunks.items) 0 ≡ Some chunk → IfOk result (IsItemOf walk ds chunk)
+      → IfOk result (λ found. map view (option_to_list found) ≡ item_trees walk ds (chunks_from number 1 (chunks_of ds)))
+  items_of_one chunk (Ok found) first is = item_of_one chunk found first is
+  items_of_one chunk (Err _) first is = tt
+
+pub mapped_first : {X Y : Type 0} (f : X → Y) (xs : List X) (x : X) → slice_get xs 0 ≡ Some x → slice_get (map f xs) 0 ≡ Some (f x)
+mapped_first f [] x is = absurd (grind arith)
+mapped_first f (y ∷ xs) x is = let same : y ≡ x = grind arith in ap (λ z. Some (f z)) same
+
+-- with the item of one chunk more
+pub one_pushed : (items more : List Value) (found : Option Value) (trees next : List Data) → map view items ≡ trees
+    → map view (option_to_list found) ≡ next → more ≡ items ++ option_to_list found → map view more ≡ trees ++ next
+one_pushed items more found trees next same also is =
+    ap (map view) is ∙ map-append view items (option_to_list found) ∙ ap₂ (λ xs ys. xs ++ ys) same also
+
+-- what holds of each holds of the first
+pub first_has : {X : Type 0} (P : X → Type 0) (xs : List X) (x : X) → slice_get xs 0 ≡ Some x → AllByRecursion P xs → P x
+first_has P [] x is all = absurd (grind arith)
+first_has P (y ∷ xs) x is all = let same : y ≡ x = grind arith in subst P same all.0
+
+-- ---- from a number on, so many chunks
+
+module _ (walk : WalkOf) (ds : List Dimension) (first : ℕ) where
+  abbrev pub items_until : ℕ → List Data
+  items_until passed = item_trees walk ds (take passed (drop first (chunks_of ds)))
+
+  pub items_more : (passed : ℕ) → first + passed < count_of (chunks_of ds)
+      → items_until (passed + 1) ≡ items_until passed ++ item_trees walk ds (chunks_from (first + passed) 1 (chunks_of ds))
+  items_more passed below =
+      let all = chunks_of ds in
+      let one : min (count_of all - (first + passed)) 1 ≡ 1 = omega arith in
+      let next : chunks_from (first + passed) 1 all ≡ take 1 (drop passed (drop first all)) =
+      ap (λ n. take n (drop (first + passed) all)) one ∙ ap (take 1) (sym (drop-drop first passed all)) in
+      ap (item_trees walk ds) (take_one_more passed (drop first all)) ∙ items_append walk ds (take passed (drop first all)) _
+      ∙ ap (λ xs. items_until passed ++ item_trees walk ds xs) (sym next)
+    where
+      take_one_more : (n : ℕ) (xs : List (List ℕ)) → take (n + 1) xs ≡ take n xs ++ take 1 (drop n xs)
+      take_one_more zero xs = refl
+      take_one_more (suc n) [] = let more : suc n + 1 ≡ suc (n + 1) = omega arith in rw more refl
+      take_one_more (suc n) (x ∷ xs) =
+          let more : suc n + 1 ≡ suc (n + 1) = omega arith in rw more (ap (λ ys. x ∷ ys) (take_one_more n xs))
+
+      drop-drop : (m n : ℕ) (xs : List (List ℕ)) → drop n (drop m xs) ≡ drop (m + n) xs
+      drop-drop zero n xs = let same : 0 + n ≡ n = omega arith in rw same refl
+      drop-drop (suc m) zero [] = let same : suc m + 0 ≡ suc m = omega arith in rw same refl
+      drop-drop (suc m) (suc n) [] = let same : suc m + suc n ≡ suc (m + suc n) = omega arith in rw same refl
+      drop-drop (suc m) n (x ∷ xs) = let same : suc m + n ≡ suc (m + n) = omega arith in rw same (drop-drop m n xs)
+
+  -- too many of some are too many of all
+  pub too_many_items : (most passed many too_many : ℕ) (items : List Data) → passed + 1 ≤ min (count_of (chunks_of ds) - first) most
+      → items ≡ items_until (passed + 1) → many ≡ length items → many ≡ too_many
+      → too_many ≤ length (item_trees walk ds (chunks_from first most (chunks_of ds)))
+  too_many_items most passed many too_many items within are counted full =
+      let fewer = fewer_items walk ds (passed + 1) (min (count_of (chunks_of ds) - first) most) (drop first (chunks_of ds)) within in
+      let long = ap length are in
+      omega arith
+
+  -- at the end they are the page
+  pub items_page : (most count in_all : ℕ) (items : List Data) (t : Data) → in_all ≡ count_of (chunks_of ds) → count ≡ min most (in_all - first)
+      → items ≡ items_until count → t ≡ page_tree items (is_more first count in_all) → t ≡ page_from walk ds first most
+  items_page most count in_all items t counted wanted are is =
+      let all = chunks_of ds in
+      let same : count ≡ min (count_of all - first) most = rw (← counted) (omega arith) in
+      let within : count ≤ length (drop first all) = within_all in
+      let long : length (take count (drop first all)) ≡ count = length-take count (drop first all) ∙ omega arith in
+      is ∙ ap (λ xs. page_tree xs (is_more first count in_all)) are
+      ∙ ap₂ (λ n m. page_tree (items_until count) (is_more first n m)) (sym long) counted
+      ∙ ap (λ n. page_tree (items_until n) (is_more first (length (take n (drop first all))) (count_of all))) same
+    where
+      within_all : count ≤ length (drop first (chunks_of ds))
+      within_all = let dropped = length-drop first (chunks_of ds) in omega arith

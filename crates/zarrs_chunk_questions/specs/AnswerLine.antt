@@ -1,6 +1,6 @@
 -- The line that answers a line.
 -- Sources: RFC 8259, and JSON Lines; the words are this library's own.
-use Rattle.std.specs.Prelude.{◌≡◌, ℕ, List, ◌++◌, codes, IsSome, Ok, Err}
+use Rattle.std.specs.Prelude.{◌≡◌, ℕ, ◌<◌, List, ◌++◌, length, codes, IsSome, Ok, Err}
 use Rattle.serde_json.specs.Data.{Data}
 use Rattle.serde_json.specs.Written.{compact_text}
 use Rattle.streams.specs.OneLine.{IsOneLine, line_of}
@@ -35,6 +35,12 @@ pub data IsAnswerLine (line answer : List ℕ) : Type 0 where
 -- the line asks for some items of a walk or of a plan
 abbrev pub AsksForItems : List ℕ → Type 0
 AsksForItems line = (d : Data) × (question : Question) × IsJsonOf line d × IsReading d (Ok question) × IsSome (items_asked question)
+
+-- the question of the line has an answer, and the line that says it is longer than so many bytes
+abbrev pub HasLongAnswer : (line : List ℕ) (room : ℕ) → Type 0
+HasLongAnswer line room =
+    (d : Data) × (question : Question) × (tree : Data) × IsJsonOf line d × IsReading d (Ok question) × IsAnswer question tree
+    × (room < length (line_of (compact_text tree)))
 
 -- one line, which answers this one
 abbrev pub IsAnswerTo : (line answer : List ℕ) → Type 0

@@ -1,8 +1,9 @@
 -- Some items of a walk and of a plan.
 -- Sources: Zarr V3 core, chunk grids, chunk key encodings and row-major ("C") order; the pages are this library's own.
 use Rattle.std.specs.Prelude.{◌≡◌, ◌≢◌, ◌⊎◌, ℕ, ◌+◌, ◌-◌, Bool, IfSome, List, [], ◌∷◌, drop, length, map, min, codes, nat_lt, take, unwrap_or}
-use Rattle.std.specs.Prelude.{Option, Some, None, Result}
-use Rattle.serde_json.specs.Data.{Data, array, boolean, member, no_members, object, string}
+use Rattle.std.specs.Prelude.{Option, Some, None, Result, Ok}
+use Rattle.std.specs.List.{AllZip}
+use Rattle.serde_json.specs.Data.{Data, array, boolean, member, no_members, null, object, string}
 use Rattle.serde_json.specs.View.{items_of}
 use Rattle.zarrs_chunk_base.specs.ArraySubset.{Box, IsBox, IsEmptyBox, IsInside}
 use Rattle.zarrs_chunk_base.specs.Dimension.{Dimension}
@@ -13,14 +14,16 @@ use Rattle.zarrs_chunk_base.specs.declared.refusal.Refusal.{Refusal}
 use Rattle.zarrs_chunk_keys.specs.ChunkKey.{Encoding, IsKey}
 use Rattle.zarrs_chunk_keys.specs.KeyKinds.{IsEncodingIn}
 use Rattle.zarrs_chunks.specs.GridKinds.{GridKind, IsGridIn}
-use Rattle.zarrs_chunks.specs.Walks.{box_at, boxed, chunks_of}
+use Rattle.zarrs_chunks.specs.Subsets.{IsCover}
+use Rattle.zarrs_chunks.specs.Walks.{box_at, boxed, chunks_in, chunks_of}
+use Rattle.zarrs_chunk_parts.specs.Plan.{IsPart}
 use Rattle.zarrs_chunk_plan.specs.Rechunking.{Group, all_chunks_box, array_box}
 use Rattle.zarrs_chunk_plan.specs.SomeCopies.{AreSomeGroups}
 use Rattle.zarrs_chunk_plan.specs.SomeParts.{AnswersNone, AnswersSome}
 use Rattle.zarrs_chunk_plan.specs.declared.read.numbered_parts.SomeParts.{SomeParts}
 use Rattle.zarrs_chunk_parts.specs.declared.part.Part.{Part}
 use Rattle.zarrs_chunk_questions.specs.Question.{Items, Lists, Target}
-use Rattle.zarrs_chunk_questions.specs.Trees.{Says, box_of, box_tree, numbers_tree}
+use Rattle.zarrs_chunk_questions.specs.Trees.{box_of, box_tree, numbers_tree}
 use Rattle.zarrs_chunk_questions.specs.declared.call.WalkOf.{WalkOf}
 use Rattle.zarrs_chunk_questions.specs.declared.call.WalkOf.TheVariants.{Boxes, Chunks, ChunksAndBoxes}
 
@@ -88,8 +91,8 @@ part_tree part =
     (member (codes "in_subset") (box_tree part.in_subset)
     (member (codes "key") (string part.key) no_members))))
 
-abbrev pub parts_tree : (first : ℕ) → SomeParts → Data
-parts_tree first some = page_tree (map part_tree some.parts.items) (is_more first (length some.parts.items) some.in_all)
+abbrev pub parts_tree : (first in_all : ℕ) → List Part → Data
+parts_tree first in_all parts = page_tree (map part_tree parts) (is_more first (length parts) in_all)
 
 -- parts of the plan of a box, none of an empty one, or why there are none
 abbrev pub AnswersPartsOf : List Dimension → (List ℕ → List ℕ → Type 0) → Box → (first most : ℕ)
@@ -97,9 +100,20 @@ abbrev pub AnswersPartsOf : List Dimension → (List ℕ → List ℕ → Type 0
 AnswersPartsOf ds HasKey b first most answer =
     (IsEmptyBox b → length ds ≢ 0 → AnswersNone answer) × ((¬ IsEmptyBox b) ⊎ (length ds ≡ 0) → AnswersSome ds HasKey b first most answer)
 
--- at most so many parts, from the one with this number on
+-- how many parts the plan of a box has, as far as a number counts them, and at most so many of them, from the one with this number on; an empty box
+-- has none
+abbrev pub ArePartsFrom : List Dimension → (List ℕ → List ℕ → Type 0) → Box → (first most in_all : ℕ) → List Part → Type 0
+ArePartsFrom ds HasKey b first most in_all parts =
+    (IsEmptyBox b → length ds ≢ 0 → (in_all ≡ 0) × (parts ≡ []))
+    × ((¬ IsEmptyBox b) ⊎ (length ds ≡ 0)
+    → (length b.start ≡ length ds) × (cover : Box) × IsCover ds b cover × (in_all ≡ min (length (chunks_in cover)) greatest)
+    × AllZip (IsPart ds HasKey b) (take (min (in_all - first) most) (drop first (chunks_in cover))) parts)
+
+-- null, where the box has no plan; or the parts
 abbrev pub IsPartsAnswer : List Dimension → (List ℕ → List ℕ → Type 0) → Box → (first most : ℕ) → Data → Type 0
-IsPartsAnswer ds HasKey b first most = Says (parts_tree first) (AnswersPartsOf ds HasKey b first most)
+IsPartsAnswer ds HasKey b first most t =
+    ((t ≡ null) × AnswersPartsOf ds HasKey b first most (Ok None))
+    ⊎ ((in_all : ℕ) × (parts : List Part) × ArePartsFrom ds HasKey b first most in_all parts × (t ≡ parts_tree first in_all parts))
 
 abbrev pub IsSomePartsAnswer : Data → Items → Lists → Grid → Data → Type 0
 IsSomePartsAnswer tree items lists grid t =

@@ -1,10 +1,10 @@
 //! The line that answers a line.
-ghost use Rattle.std.specs.Prelude.{◌≡◌, ℕ, IfOk, IfSome, List, MatchResult, None, string_bytes};
+ghost use Rattle.std.specs.Prelude.{◌≡◌, ◌+◌, ℕ, IfOk, IfSome, List, MatchResult, None, string_bytes};
 ghost use Rattle.serde_json.specs.View.{view};
 ghost use Rattle.streams.specs.OneLine.{IsOneLine, line_of};
 ghost use Rattle.zarrs_chunk_base.specs.Refusal.{OrMemory};
-ghost use Rattle.zarrs_chunk_questions.specs.AnswerLine.{AsksForItems, IsAnswerLine, Tells};
-ghost use Rattle.zarrs_chunk_questions.specs.seen.Lines.{IsAnswerText, IsLineAnswer, IsLineFault, IsTreeAnswer, IsQuestionFault, TreeAsksForItems};
+ghost use Rattle.zarrs_chunk_questions.specs.AnswerLine.{AsksForItems, HasLongAnswer, IsAnswerLine, Tells};
+ghost use Rattle.zarrs_chunk_questions.specs.seen.Lines.{IsAnswerText, IsGiven, IsLineAnswer, IsLineFault, IsTreeAnswer, IsQuestionFault, TreeAsksForItems};
 
 use crate::answering::answer_question;
 use crate::line_fault::LineFault;
@@ -30,8 +30,8 @@ pub fn answer(alloc: Global, line: &[u8]) -> Result<Vec<u8>, AllocError>
     }
 }
 
-/// The same, or `None` where a walk's items alone are longer than `room` bytes. A walk is ended there, so whatever number of items is asked
-/// for, no more memory is taken than in proportion to the line and the room.
+/// The same, or `None` if the answer is longer than `room` bytes and its items are enough to see that. No more items are made then, so whatever
+/// number of them is asked for, no more memory is taken than in proportion to the line and the room.
 ///
 /// # Errors
 /// Out of memory.
@@ -40,6 +40,7 @@ pub fn answer_within(alloc: Global, line: &[u8], room: usize) -> Result<Option<V
     ensures says { IfOk result (λ found. IfSome found (λ answer.
         IsAnswerLine line.now answer.items)) }
     ensures long { IfOk result (λ found. found ≡ None → AsksForItems line.now) }
+    ensures longer { IfOk result (λ found. found ≡ None → HasLongAnswer line.now room) }
 {
     match answer_of(alloc, line, room) {
         Ok(Some(tree)) => Ok(Some(write_line(alloc, &Ok(tree))?)),
@@ -97,13 +98,12 @@ fn fault_text(alloc: Global, fault: &LineFault) -> Result<String, AllocError>
     Ok(text)
 }
 
-/// The tree of the answer to a line; `None` where the items of a walk are longer than there is room for.
+/// The tree of the answer to a line; `None` where its items are longer than there is room for.
 ///
 /// # Errors
 /// The first fault of the line; or out of memory.
 fn answer_of(alloc: Global, line: &[u8], room: usize) -> Result<Option<Value>, Refusal<LineFault>>
-    ensures answer { MatchResult result
-        (λ found. IfSome found (λ tree. IsLineAnswer line.now (view tree)))
+    ensures answer { MatchResult result (IsGiven (room + 1) (IsLineAnswer line.now))
         (OrMemory (IsLineFault line.now)) }
     ensures long { IfOk result (λ found. found ≡ None → AsksForItems line.now) }
 {
@@ -119,8 +119,7 @@ fn answer_tree(
     tree: &Value,
     room: usize,
 ) -> Result<Option<Value>, Refusal<LineFault>>
-    ensures answer { MatchResult result (λ found. IfSome found (λ answer.
-        IsTreeAnswer (view tree.now) (view answer)))
+    ensures answer { MatchResult result (IsGiven (room + 1) (IsTreeAnswer (view tree.now)))
         (OrMemory (IsQuestionFault (view tree.now))) }
     ensures long { IfOk result (λ found. found ≡ None → TreeAsksForItems (view tree.now)) }
 {

@@ -1,10 +1,11 @@
 //! What answers a question.
-ghost use Rattle.std.specs.Prelude.{◌≡◌, IfOk, IfSome, IsSome, MatchResult, None, string_bytes};
+ghost use Rattle.std.specs.Prelude.{◌≡◌, ◌+◌, IfOk, IsSome, MatchResult, None, string_bytes};
 ghost use Rattle.serde_json.specs.View.{view};
 ghost use Rattle.zarrs_chunk_base.specs.Refusal.{OrMemory};
 ghost use Rattle.zarrs_chunk_questions.specs.Answers.{IsAnswer};
 ghost use Rattle.zarrs_chunk_questions.specs.Question.{decode as decoding, encode as encoding, items_asked};
 ghost use Rattle.zarrs_chunk_questions.specs.Refused.{IsRefusal};
+ghost use Rattle.zarrs_chunk_questions.specs.seen.Lines.{IsGiven};
 ghost use Rattle.zarrs_chunk_questions.specs.seen.Read.{question_of};
 
 use crate::array_question::answer_asked;
@@ -17,7 +18,7 @@ use serde_json::Value;
 use std::alloc::Global;
 use zarrs_chunk_base::Refusal;
 
-/// The tree of the answer to a question; `None` where the items of a walk are longer than there is room for.
+/// The tree of the answer to a question; `None` where its items are longer than there is room for.
 ///
 /// # Errors
 /// The first that applies: the grid can't be made; a fault of [`answer_asked`]. Or one of [`key_of_chunk`], [`chunk_of_key`] or [`answer_bytes`]. Or
@@ -27,8 +28,8 @@ pub(crate) fn answer_question(
     question: Question<'_>,
     room: usize,
 ) -> Result<Option<Value>, Refusal<LineFault>>
-    ensures answer { MatchResult result (λ found. IfSome found (λ tree.
-        IsAnswer (question_of question.entry) (view tree)))
+    ensures answer { MatchResult result
+        (IsGiven (room + 1) (IsAnswer (question_of question.entry)))
         (OrMemory (IsRefusal (question_of question.entry))) }
     ensures long { IfOk result (λ found. found ≡ None
         → IsSome (items_asked (question_of question.entry))) }

@@ -1,5 +1,5 @@
 //! What is asked of the grid of an array, and what answers it.
-ghost use Rattle.std.specs.Prelude.{◌≡◌, Err, IfOk, IfSome, IsSome, MatchResult, None, Ok, Some, length, option_map};
+ghost use Rattle.std.specs.Prelude.{◌≡◌, ◌+◌, Err, IfOk, IsSome, MatchResult, None, Ok, Some, length, option_map};
 ghost use Rattle.serde_json.specs.View.{view};
 ghost use Rattle.zarrs_chunk_base.specs.Refusal.{OrMemory};
 ghost use Rattle.zarrs_chunk_keys.specs.ChunkKey.{Encoding};
@@ -12,6 +12,7 @@ ghost use Rattle.zarrs_chunk_questions.specs.Pages.{IsSomeCopiesAnswer, IsSomePa
 ghost use Rattle.zarrs_chunk_questions.specs.Question.{items_asked, of_array};
 ghost use Rattle.zarrs_chunk_questions.specs.Refused.{IsArrayRefusal, IsLocatedRefusal, IsSomeCopiesRefusal, IsSomePartsRefusal, IsSomeRegionRefusal};
 ghost use Rattle.zarrs_chunk_questions.specs.Regions.{IsSomeRegionCopiesAnswer, IsSomeRegionCountsAnswer};
+ghost use Rattle.zarrs_chunk_questions.specs.seen.Lines.{IsGiven};
 ghost use Rattle.zarrs_chunk_questions.specs.seen.Read.{asked_of, items_of, lists_of, region_of, share_of, target_array_of, target_of};
 
 use crate::asked::{Asked, Items, Lists, RegionAsked, Target, TargetArray};
@@ -34,8 +35,8 @@ use zarrs_chunk_base::Refusal;
 use zarrs_chunk_plan::Share;
 use zarrs_chunks::{ChunkGrid, ChunkGridTraits, locate};
 
-/// What the grid of an array with this shape answers, which the tree is the metadata of; `None` where the items of a walk are longer than there is
-/// room for.
+/// What the grid of an array with this shape answers, which the tree is the metadata of; `None` where its items are longer than there is room
+/// for.
 ///
 /// # Errors
 /// The first that applies: the grid's kind hasn't the call; an encoding, a target, a box or a grid of another shape that the call is asked of can't
@@ -49,9 +50,9 @@ pub(crate) fn answer_asked(
     room: usize,
 ) -> Result<Option<Value>, Refusal<LineFault>>
     requires { IsGridIn (view chunk_grid.now) shape.now (kind_in grid) (grid_in grid) }
-    ensures answer { MatchResult result (λ found. IfSome found (λ tree.
-        IsArrayAnswer shape.now (view chunk_grid.now) (asked_of asked.entry) (kind_in grid)
-        (grid_in grid) (view tree)))
+    ensures answer { MatchResult result (IsGiven (room + 1)
+        (IsArrayAnswer shape.now (view chunk_grid.now) (asked_of asked.entry) (kind_in grid)
+        (grid_in grid)))
         (OrMemory (IsArrayRefusal shape.now (view chunk_grid.now) (asked_of asked.entry)
         (kind_in grid) (grid_in grid))) }
     ensures long { IfOk result (λ found. found ≡ None → IsSome
@@ -126,7 +127,7 @@ fn answer_located(
     }
 }
 
-/// Some of the items of a walk.
+/// Some of the items of a walk; `None` where they are longer than there is room for.
 ///
 /// # Errors
 /// Out of memory.
@@ -137,25 +138,17 @@ fn some_items(
     items: Items,
     room: usize,
 ) -> Result<Option<Value>, AllocError>
-    ensures { IfOk result (λ found. IfSome found (λ tree.
-        view tree ≡ walk_tree walk (grid_in grid.now).dimensions (items_of items))) }
+    ensures { IfOk result (IsGiven (room + 1)
+        (λ tree. tree ≡ walk_tree walk (grid_in grid.now).dimensions (items_of items))) }
 {
-    let limits = limits_of(grid, items, walk.lists(), room);
+    let limits = Limits::new(items.most, walk.lists(), grid.dimensionality(), room);
     match items.first {
         Some(first) => items_from(alloc, grid, walk, first, &limits),
         None => items_of_walk(alloc, grid, walk, &limits),
     }
 }
 
-/// How many items are given that have so many lists of a number for each dimension.
-fn limits_of(grid: &ChunkGrid, items: Items, lists: usize, room: usize) -> Limits
-    ensures { result.most ≡ items.most }
-{
-    let numbers = grid.dimensionality().saturating_mul(lists);
-    Limits::new(items.most, numbers, room)
-}
-
-/// Some of the parts of the plan of reading a box of elements of the grid's array.
+/// Some of the parts of the plan of reading a box of elements of the grid's array; `None` where they are longer than there is room for.
 ///
 /// # Errors
 /// The first that applies: the encoding can't be made; the start and the shape make no box; the box has another number of dimensions. Or out of
@@ -168,8 +161,8 @@ fn some_parts(
     lists: Lists,
     room: usize,
 ) -> Result<Option<Value>, Refusal<LineFault>>
-    ensures { MatchResult result (λ found. IfSome found (λ tree. IsSomePartsAnswer
-        (view encoding_tree.now) (items_of items) (lists_of lists) (grid_in grid.now) (view tree)))
+    ensures { MatchResult result (IsGiven (room + 1) (IsSomePartsAnswer
+        (view encoding_tree.now) (items_of items) (lists_of lists) (grid_in grid.now)))
         (OrMemory (IsSomePartsRefusal (view encoding_tree.now) (lists_of lists)
         (grid_in grid.now))) }
 {
@@ -178,12 +171,12 @@ fn some_parts(
         Ok(elements) => elements,
         Err(fault) => return Err(Refusal::Refused(fault)),
     };
-    let limits = limits_of(grid, items, 5, room);
+    let limits = Limits::new(items.most, 5, grid.dimensionality(), room);
     let first = items.first.unwrap_or(0);
     parts_from(alloc, grid, &encoding, &elements, first, &limits)
 }
 
-/// Some of the groups of the plan of a rechunking of the grid's array, which has this shape.
+/// Some of the groups of the plan of a rechunking of the grid's array, which has this shape; `None` where they are longer than there is room for.
 ///
 /// # Errors
 /// The first that applies: the encoding can't be made; the target's grid or its encoding; the start and the shape make no box; the box has another
@@ -198,13 +191,13 @@ fn some_copies(
     chunks: Option<Lists>,
     room: usize,
 ) -> Result<Option<Value>, Refusal<LineFault>>
-    ensures { MatchResult result (λ found. IfSome found (λ tree. IsSomeCopiesAnswer shape.now
+    ensures { MatchResult result (IsGiven (room + 1) (IsSomeCopiesAnswer shape.now
         (view encoding_tree.now) (target_of target.entry) (items_of items)
-        (option_map lists_of chunks) (grid_in grid) (view tree)))
+        (option_map lists_of chunks) (grid_in grid)))
         (OrMemory (IsSomeCopiesRefusal shape.now (view encoding_tree.now) (target_of target.entry)
         (option_map lists_of chunks) (grid_in grid))) }
 {
-    let limits = limits_of(&grid, items, 5, room);
+    let limits = Limits::new(items.most, 5, grid.dimensionality(), room);
     let rechunking = Rechunking::new(alloc, shape, grid, encoding_tree, target, chunks)?;
     let first = items.first.unwrap_or(0);
     copies_from(alloc, &rechunking, first, &limits)
@@ -233,7 +226,7 @@ fn answer_counts(
     counts_of_copies(alloc, &rechunking, &share)
 }
 
-/// Some of the groups of the copy of a region of the grid's array.
+/// Some of the groups of the copy of a region of the grid's array; `None` where they are longer than there is room for.
 ///
 /// # Errors
 /// The first that applies: the encoding can't be made; the target's grid or its encoding; the start and the shape make no box; the region, the two
@@ -247,13 +240,13 @@ fn some_region_copies(
     region: RegionAsked,
     room: usize,
 ) -> Result<Option<Value>, Refusal<LineFault>>
-    ensures { MatchResult result (λ found. IfSome found (λ tree. IsSomeRegionCopiesAnswer
+    ensures { MatchResult result (IsGiven (room + 1) (IsSomeRegionCopiesAnswer
         (view encoding_tree.now) (target_array_of target.entry) (items_of items)
-        (region_of region) (grid_in grid) (view tree)))
+        (region_of region) (grid_in grid)))
         (OrMemory (IsSomeRegionRefusal (view encoding_tree.now) (target_array_of target.entry)
         (region_of region) (grid_in grid))) }
 {
-    let limits = limits_of(&grid, items, 5, room);
+    let limits = Limits::new(items.most, 5, grid.dimensionality(), room);
     let copied = RegionCopy::new(alloc, grid, encoding_tree, target, region)?;
     let first = items.first.unwrap_or(0);
     region_copies_from(alloc, &copied, first, &limits)

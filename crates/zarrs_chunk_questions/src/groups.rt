@@ -1,12 +1,13 @@
 //! The groups that a walk over a plan has to give, from one of them on: those before it take no time.
-ghost use Rattle.std.specs.Prelude.{◌≡◌, IfOk, IfSome, List, map, take};
+ghost use Rattle.std.specs.Prelude.{◌≡◌, ◌+◌, ◌*◌, ◌≤◌, IfOk, List, MatchOption, length, map, take};
 ghost use Rattle.std.specs.List.{AllZip};
 ghost use Rattle.serde_json.specs.View.{view};
 ghost use Rattle.zarrs_chunk_plan.specs.Rechunking.{Group};
 ghost use Rattle.zarrs_chunk_plan.specs.seen.Copies.{CanMove, all_targets, targets_to_come};
 ghost use Rattle.zarrs_chunk_plan.specs.seen.Parts.{ArePartsToCome, MeetSubset};
 ghost use Rattle.zarrs_chunk_parts.specs.declared.part.Part.{Part as PartValue};
-ghost use Rattle.zarrs_chunk_questions.specs.seen.Groups.{IsGroupIn, IsPageOfGroups, tree_in};
+ghost use Rattle.zarrs_chunk_questions.specs.seen.Groups.{CanGiveAll, CanGiveParts, IsGroupIn, IsPageOfGroups, parts_in, tree_in};
+ghost use Rattle.zarrs_chunk_questions.specs.seen.Lines.{IsGiven};
 
 use crate::limits::Limits;
 use crate::pages::page_tree;
@@ -17,8 +18,8 @@ use zarrs_chunk_keys::ChunkKeyEncodingTraits;
 use zarrs_chunk_plan::{ChunkCopies, Copies, Part, Parts};
 use zarrs_chunks::ChunkGridTraits;
 
-/// The tree of the groups of a walk that is at its beginning, from the one with this number on; `None` where their parts are longer than there is
-/// room for. A group is made at a time, and no more of its parts than there is room for.
+/// The tree of the groups of a walk that is at its beginning, from the one with this number on; `None` where their parts are too many. A group is made
+/// at a time, and no more of its parts than there is room for.
 ///
 /// # Errors
 /// Out of memory.
@@ -36,23 +37,24 @@ pub(crate) fn groups_page<
 ) -> Result<Option<Value>, AllocError>
     requires can_move { CanMove G.dimensions H.dimensions walk }
     requires begins { all_targets walk ≡ targets_to_come walk }
-    ensures { IfOk result (λ found. IfSome found (λ tree. IsPageOfGroups plan
-        (IsGroupIn G.dimensions E.is_key H.dimensions F.is_key walk.entry)
-        (targets_to_come walk.entry) first limits.now.most (view tree))) }
+    requires all { CanGiveAll E.is_key F.is_key walk }
+    ensures { IfOk result (IsGiven (limits.now.too_many
+        * (2 * (5 * length (G.dimensions walk.entry.source.now.grid)) + 1))
+        (IsPageOfGroups plan (IsGroupIn G.dimensions E.is_key H.dimensions F.is_key walk.entry)
+        (targets_to_come walk.entry) first limits.now.most)) }
 {
     let mut walk = walk;
     let in_all = walk.in_all().unwrap_or(u64::MAX);
-    let count = limits.wanted().min(in_all.saturating_sub(first));
+    let most = limits.most.min(in_all.saturating_sub(first));
     walk.skip_to(first)?;
-    let Some(trees) = group_trees(alloc, plan, &mut walk, count as usize, limits.too_many)? else {
+    let Some(trees) = group_trees(alloc, plan, &mut walk, most as usize, limits.too_many)? else {
         return Ok(None);
     };
-    let given = trees.len();
-    let page = page_tree(alloc, trees, limits, first, given, in_all)?;
-    Ok(page)
+    let count = trees.len() as u64;
+    Ok(Some(page_tree(alloc, trees, first, count, in_all)?))
 }
 
-/// The trees of the groups that a walk has left, at most so many; `None` where they have that many parts, or more.
+/// The trees of the groups that a walk has left, at most so many; `None` where they have so many parts, or more.
 ///
 /// # Errors
 /// Out of memory.
@@ -66,13 +68,15 @@ fn group_trees<
     plan: PlanOf,
     walk: &mut Copies<'_, G, E, H, F>,
     most: usize,
-    too_many: u64,
+    too_many: u128,
 ) -> Result<Option<Vec<Value>>, AllocError>
-    requires { CanMove G.dimensions H.dimensions walk.old }
-    ensures { IfOk result (λ found. IfSome found (λ trees. (groups : List Group)
+    requires can_move { CanMove G.dimensions H.dimensions walk.old }
+    requires all { CanGiveAll E.is_key F.is_key walk.old }
+    ensures { IfOk result (λ found. (groups : List Group)
         × AllZip (IsGroupIn G.dimensions E.is_key H.dimensions F.is_key walk.old)
         (take most (targets_to_come walk.old)) groups
-        × (map view trees.items ≡ map (tree_in plan) groups))) }
+        × MatchOption found (too_many ≤ parts_in groups)
+        (λ trees. map view trees.items ≡ map (tree_in plan) groups)) }
 {
     let mut trees = Vec::new(alloc);
     let mut left = too_many;
@@ -84,13 +88,13 @@ fn group_trees<
         let Some((tree, parts)) = tree_of(alloc, plan, group, left)? else {
             return Ok(None);
         };
-        left = left.saturating_sub(parts);
+        left = left.saturating_sub(parts as u128);
         trees.push(tree)?;
     }
     Ok(Some(trees))
 }
 
-/// The tree of a group, and how many parts it has; `None` where they are that many, or more.
+/// The tree of a group, and how many parts it has; `None` where they are so many, or more.
 ///
 /// # Errors
 /// Out of memory.
@@ -98,11 +102,13 @@ fn tree_of<G: ChunkGridTraits, E: ChunkKeyEncodingTraits>(
     alloc: Global,
     plan: PlanOf,
     group: ChunkCopies<'_, G, E>,
-    too_many: u64,
-) -> Result<Option<(Value, u64)>, AllocError>
-    requires { MeetSubset G.dimensions group.from }
-    ensures { IfOk result (λ found. IfSome found (λ made. (parts : List PartValue)
+    too_many: u128,
+) -> Result<Option<(Value, usize)>, AllocError>
+    requires meet { MeetSubset G.dimensions group.from }
+    requires all { CanGiveParts E.is_key group.from }
+    ensures { IfOk result (λ found. (parts : List PartValue)
         × ArePartsToCome G.dimensions E.is_key group.entry.from parts
+        × MatchOption found (too_many ≤ length parts) (λ made. (made.1 ≡ length parts)
         × (view made.0 ≡ tree_in plan (group.entry.to, parts)))) }
 {
     let ChunkCopies { to, from } = group;
@@ -110,26 +116,29 @@ fn tree_of<G: ChunkGridTraits, E: ChunkKeyEncodingTraits>(
         return Ok(None);
     };
     let tree = group_tree(alloc, plan, &to, &parts)?;
-    Ok(Some((tree, parts.len() as u64)))
+    Ok(Some((tree, parts.len())))
 }
 
-/// The parts that a walk has left; `None` where they are that many, or more.
+/// The parts that a walk has left; `None` where they are so many, or more.
 ///
 /// # Errors
 /// Out of memory.
 fn parts_below<G: ChunkGridTraits, E: ChunkKeyEncodingTraits>(
     alloc: Global,
     walk: Parts<'_, G, E>,
-    too_many: u64,
+    too_many: u128,
 ) -> Result<Option<Vec<Part>>, AllocError>
-    requires { MeetSubset G.dimensions walk }
-    ensures { IfOk result (λ found. IfSome found (λ all.
-        ArePartsToCome G.dimensions E.is_key walk.entry all.items)) }
+    requires meet { MeetSubset G.dimensions walk }
+    requires all { CanGiveParts E.is_key walk }
+    ensures { IfOk result (λ found. MatchOption found
+        ((parts : List PartValue) × ArePartsToCome G.dimensions E.is_key walk.entry parts
+        × (too_many ≤ length parts))
+        (λ all. ArePartsToCome G.dimensions E.is_key walk.entry all.items)) }
 {
     let mut all = Vec::new(alloc);
     for part in walk {
         all.push(part?)?;
-        if all.len() as u64 >= too_many {
+        if all.len() as u128 >= too_many {
             return Ok(None);
         }
     }

@@ -1,6 +1,5 @@
 //! The items of a walk, and of a plan, from one of them on: those before it take no time.
-ghost use Rattle.std.specs.Prelude.{◌≡◌, ◌≢◌, IfOk, IfSome, MatchResult, map};
-ghost use Rattle.std.specs.List.{AllByRecursion};
+ghost use Rattle.std.specs.Prelude.{◌≡◌, ◌≤◌, ◌+◌, ◌*◌, IfOk, MatchOption, MatchResult, length, map, option_to_list};
 ghost use Rattle.serde_json.specs.View.{view};
 ghost use Rattle.zarrs_chunk_axes.specs.InBounds.{AreBelow};
 ghost use Rattle.zarrs_chunk_base.specs.Dimension.{grid_sizes};
@@ -8,10 +7,14 @@ ghost use Rattle.zarrs_chunk_base.specs.Refusal.{OrMemory};
 ghost use Rattle.zarrs_chunk_keys.specs.ChunkKey.{IsKey};
 ghost use Rattle.zarrs_chunk_keys.specs.seen.Encodings.{encoding_in};
 ghost use Rattle.zarrs_chunks.specs.seen.Grids.{grid_in};
-ghost use Rattle.zarrs_chunk_questions.specs.Pages.{IsPartsAnswer, is_more, item_trees as trees_of_items, page_from, page_tree as tree_of_page};
+ghost use Rattle.zarrs_chunk_plan.specs.Rechunking.{all_chunks_box};
+ghost use Rattle.zarrs_chunks.specs.Walks.{chunks_of};
+ghost use Rattle.zarrs_chunk_questions.specs.Pages.{IsPartsAnswer, chunks_from, is_more, item_trees as trees_of_items, page_from};
+ghost use Rattle.zarrs_chunk_questions.specs.Pages.{page_tree as tree_of_page};
 ghost use Rattle.zarrs_chunk_questions.specs.Pages.{part_tree as tree_of_part};
 ghost use Rattle.zarrs_chunk_questions.specs.Refused.{IsPartsRefusal};
-ghost use Rattle.zarrs_chunk_questions.specs.seen.Walked.{IsBoxOf, IsItemOf};
+ghost use Rattle.zarrs_chunk_questions.specs.seen.Lines.{IsGiven};
+ghost use Rattle.zarrs_chunk_questions.specs.seen.Walked.{IsBoxOf, IsItemOf, lists_in};
 
 use crate::call::WalkOf;
 use crate::limits::Limits;
@@ -24,11 +27,13 @@ use std::alloc::{AllocError, Global};
 use zarrs_chunk_base::{ArraySubset, Refusal, write_box, write_list};
 use zarrs_chunk_keys::ChunkKeyEncoding;
 use zarrs_chunk_plan::{Part, all_chunks, some_chunks, some_parts};
-use zarrs_chunks::{ArrayIndicesTinyVec, ChunkGrid, ChunkGridTraits};
+use zarrs_chunks::{ChunkGrid, ChunkGridTraits};
 
 impl WalkOf {
     /// How many lists of numbers an item has.
-    pub(crate) fn lists(self) -> usize {
+    pub(crate) fn lists(self) -> usize
+        ensures { result ≡ lists_in self }
+    {
         match self {
             WalkOf::Chunks => 1,
             WalkOf::Boxes => 2,
@@ -83,8 +88,8 @@ fn box_of_chunk<G: ChunkGridTraits>(
     }
 }
 
-/// The tree of a walk's items of the chunks that a grid counts, from the one with this number on; `None` where they are longer than there is room
-/// for. Chunks without a box have no item where the walk gives boxes, and are counted all the same.
+/// The tree of a walk's items of the chunks that a grid counts, from the one with this number on; `None` where there are too many items. Chunks
+/// without a box have no item where the walk gives boxes, and are counted all the same.
 ///
 /// # Errors
 /// Out of memory.
@@ -95,42 +100,52 @@ pub(crate) fn items_from<G: ChunkGridTraits>(
     first: u64,
     limits: &Limits,
 ) -> Result<Option<Value>, AllocError>
-    ensures { IfOk result (λ found. IfSome found (λ tree.
-        view tree ≡ page_from walk (G.dimensions grid.now) first limits.now.most)) }
+    ensures { IfOk result (λ found. MatchOption found
+        (limits.now.too_many ≤ length (trees_of_items walk (G.dimensions grid.now)
+        (chunks_from first limits.now.most (chunks_of (G.dimensions grid.now)))))
+        (λ tree. view tree ≡ page_from walk (G.dimensions grid.now) first limits.now.most)) }
 {
     let chunks = all_chunks(alloc, grid)?;
-    let some = some_chunks(alloc, &chunks, first, limits.wanted() as usize)?;
-    let items = item_trees(alloc, grid, walk, &some.chunks)?;
-    let page = page_tree(alloc, items, limits, first, some.chunks.len(), some.in_all)?;
-    Ok(page)
+    let some = some_chunks(alloc, &chunks, first, 0)?;
+    let count = limits.most.min(some.in_all.saturating_sub(first));
+    let mut items = Vec::new(alloc);
+    for passed in 0..count {
+        if let Some(item) = item_at(alloc, grid, walk, &chunks, first + passed)? {
+            items.push(item)?;
+        }
+        if limits.is_too_many(items.len()) {
+            return Ok(None);
+        }
+    }
+    Ok(Some(page_tree(alloc, items, first, count, some.in_all)?))
 }
 
-/// The trees of what a walk gives of chunks that a grid counts.
+/// The tree of what a walk gives of the chunk with this number, of all chunks that a grid counts; `None` where it gives boxes, and the chunk has
+/// none.
 ///
 /// # Errors
 /// Out of memory.
-fn item_trees<G: ChunkGridTraits>(
+fn item_at<G: ChunkGridTraits>(
     alloc: Global,
     grid: &G,
     walk: WalkOf,
-    chunks: &[ArrayIndicesTinyVec],
-) -> Result<Vec<Value>, AllocError>
-    requires { AllByRecursion (λ chunk. AreBelow (grid_sizes (G.dimensions grid.now)) chunk.items)
-        chunks.now }
-    ensures { IfOk result (λ items. map view items.items
-        ≡ trees_of_items walk (G.dimensions grid.now) (map (λ chunk. chunk.items) chunks.now)) }
+    chunks: &ArraySubset,
+    number: u64,
+) -> Result<Option<Value>, AllocError>
+    requires { chunks.now ≡ all_chunks_box (G.dimensions grid.now) }
+    ensures { IfOk result (λ found. map view (option_to_list found)
+        ≡ trees_of_items walk (G.dimensions grid.now)
+        (chunks_from number 1 (chunks_of (G.dimensions grid.now)))) }
 {
-    let mut items = Vec::new(alloc);
-    for chunk in chunks {
-        if let Some(item) = walk.item_of(alloc, grid, chunk.as_slice())? {
-            items.push(item)?;
-        }
+    let some = some_chunks(alloc, chunks, number, 1)?;
+    match some.chunks.first() {
+        Some(chunk) => walk.item_of(alloc, grid, chunk.as_slice()),
+        None => Ok(None),
     }
-    Ok(items)
 }
 
-/// The tree of the parts of the plan of reading a box of elements, from the one with this number on; `null` where it has no plan. `None` where the
-/// parts are longer than there is room for.
+/// The tree of the parts of the plan of reading a box of elements, from the one with this number on; `null` where it has no plan. `None` where there
+/// are too many parts.
 ///
 /// # Errors
 /// The box has another number of dimensions; or out of memory.
@@ -142,9 +157,10 @@ pub(crate) fn parts_from(
     first: u64,
     limits: &Limits,
 ) -> Result<Option<Value>, Refusal<LineFault>>
-    ensures { MatchResult result (λ found. IfSome found (λ tree.
-        IsPartsAnswer (grid_in grid.now).dimensions (IsKey (encoding_in encoding.now))
-        elements.now first limits.now.most (view tree)))
+    ensures { MatchResult result (IsGiven
+        (limits.now.too_many * (2 * (5 * length (grid_in grid.now).dimensions) + 1))
+        (IsPartsAnswer (grid_in grid.now).dimensions (IsKey (encoding_in encoding.now))
+        elements.now first limits.now.most))
         (OrMemory (IsPartsRefusal (grid_in grid.now).dimensions (IsKey (encoding_in encoding.now))
         elements.now)) }
 {
@@ -152,9 +168,13 @@ pub(crate) fn parts_from(
     let Some(some) = found(some_parts(alloc, grid, encoding, elements, first, most))? else {
         return Ok(Some(Value::Null));
     };
+    if limits.is_too_many(some.parts.len()) {
+        elements.is_a_box();
+        return Ok(None);
+    }
     let items = part_trees(alloc, &some.parts)?;
-    let page = page_tree(alloc, items, limits, first, some.parts.len(), some.in_all)?;
-    Ok(page)
+    let count = some.parts.len() as u64;
+    Ok(Some(page_tree(alloc, items, first, count, some.in_all)?))
 }
 
 /// The trees of parts.
@@ -171,27 +191,21 @@ fn part_trees(alloc: Global, parts: &[Part]) -> Result<Vec<Value>, AllocError>
     Ok(trees)
 }
 
-/// The tree of the items of so many chunks, from the one with the number `first` on, of so many in all; `None` where they are longer than there is
-/// room for.
+/// The tree of the items of so many chunks, from the one with the number `first` on, of so many in all.
 ///
 /// # Errors
 /// Out of memory.
 pub(crate) fn page_tree(
     alloc: Global,
     items: Vec<Value>,
-    limits: &Limits,
     first: u64,
-    count: usize,
+    count: u64,
     in_all: u64,
-) -> Result<Option<Value>, AllocError>
-    ensures { IfOk result (λ page. IfSome page (λ tree. (count ≢ limits.now.too_many)
-        × (view tree ≡ tree_of_page (map view items.items) (is_more first count in_all)))) }
+) -> Result<Value, AllocError>
+    ensures { IfOk result (λ tree.
+        view tree ≡ tree_of_page (map view items.items) (is_more first count in_all)) }
 {
-    if limits.is_too_many(count) {
-        return Ok(None);
-    }
-    let more = first.saturating_add(count as u64) < in_all;
-    Ok(Some(items_tree(alloc, items, more)?))
+    items_tree(alloc, items, first.saturating_add(count) < in_all)
 }
 
 /// The tree of items, and of whether more follow.

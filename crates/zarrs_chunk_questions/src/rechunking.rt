@@ -1,5 +1,5 @@
 //! A rechunking that a question is about, and the groups of its plan.
-ghost use Rattle.std.specs.Prelude.{◌≡◌, IfSome, MatchResult, option_map};
+ghost use Rattle.std.specs.Prelude.{◌≡◌, ◌+◌, ◌*◌, IfSome, MatchResult, length, option_map};
 ghost use Rattle.serde_json.specs.View.{view};
 ghost use Rattle.zarrs_chunk_base.specs.ArraySubset.{IsBox};
 ghost use Rattle.zarrs_chunk_base.specs.Refusal.{OrMemory};
@@ -8,6 +8,7 @@ ghost use Rattle.zarrs_chunk_keys.specs.seen.Encodings.{encoding_in};
 ghost use Rattle.zarrs_chunks.specs.seen.Grids.{grid_in};
 ghost use Rattle.zarrs_chunk_questions.specs.Pages.{IsCopiesAnswer, target_chunks as chunks_asked};
 ghost use Rattle.zarrs_chunk_questions.specs.Refused.{IsNoBoxOf, IsNoRechunking, IsSomeCopiesRefusal};
+ghost use Rattle.zarrs_chunk_questions.specs.seen.Lines.{IsGiven};
 ghost use Rattle.zarrs_chunk_questions.specs.seen.Read.{lists_of, target_of};
 ghost use Rattle.zarrs_chunk_questions.specs.Trees.{box_of as box_said};
 ghost use Rattle.zarrs_chunk_questions.specs.seen.Targets.{IsNoTarget, IsRechunkingIn, IsTargetIn};
@@ -113,7 +114,7 @@ fn target_chunks(
     }
 }
 
-/// The tree of the groups of the plan of a rechunking, from the one with this number on; `None` where the parts are longer than there is room for.
+/// The tree of the groups of the plan of a rechunking, from the one with this number on; `None` where the parts are too many.
 ///
 /// # Errors
 /// The box of chunks has another number of dimensions than the target; or out of memory.
@@ -123,12 +124,13 @@ pub(crate) fn copies_from(
     first: u64,
     limits: &Limits,
 ) -> Result<Option<Value>, Refusal<LineFault>>
-    ensures { MatchResult result (λ found. IfSome found (λ tree. IsCopiesAnswer
-        (grid_in rechunking.now.source.grid).dimensions
+    ensures { MatchResult result (IsGiven (limits.now.too_many
+        * (2 * (5 * length (grid_in rechunking.now.source.grid).dimensions) + 1))
+        (IsCopiesAnswer (grid_in rechunking.now.source.grid).dimensions
         (IsKey (encoding_in rechunking.now.source.encoding))
         (grid_in rechunking.now.target.grid).dimensions
         (IsKey (encoding_in rechunking.now.target.encoding))
-        rechunking.now.chunks first limits.now.most (view tree)))
+        rechunking.now.chunks first limits.now.most))
         (OrMemory (IsNoRechunking (grid_in rechunking.now.source.grid).dimensions
         (grid_in rechunking.now.target.grid).dimensions rechunking.now.chunks)) }
 {

@@ -1,5 +1,5 @@
 //! A region of an array that a question is about, and the groups of its copy to another array.
-ghost use Rattle.std.specs.Prelude.{◌≡◌, IfOk, IfSome, MatchResult, option_map, replicate, unwrap_or};
+ghost use Rattle.std.specs.Prelude.{◌≡◌, ◌+◌, ◌*◌, IfOk, MatchResult, length, option_map, replicate, unwrap_or};
 ghost use Rattle.serde_json.specs.View.{view};
 ghost use Rattle.zarrs_chunk_base.specs.ArraySubset.{IsBox};
 ghost use Rattle.zarrs_chunk_base.specs.Refusal.{OrMemory};
@@ -8,6 +8,7 @@ ghost use Rattle.zarrs_chunk_keys.specs.seen.Encodings.{encoding_in};
 ghost use Rattle.zarrs_chunks.specs.seen.Grids.{grid_in};
 ghost use Rattle.zarrs_chunk_questions.specs.Refused.{IsNoRegionCopy, IsSomeRegionRefusal};
 ghost use Rattle.zarrs_chunk_questions.specs.Regions.{IsRegionCopiesAnswer};
+ghost use Rattle.zarrs_chunk_questions.specs.seen.Lines.{IsGiven};
 ghost use Rattle.zarrs_chunk_questions.specs.seen.Read.{region_of, target_array_of};
 ghost use Rattle.zarrs_chunk_questions.specs.seen.Targets.{IsRegionIn};
 
@@ -90,7 +91,7 @@ fn index_or_zeros(
     Ok(zeros)
 }
 
-/// The tree of the groups of the copy of a region, from the one with this number on; `None` where the parts are longer than there is room for.
+/// The tree of the groups of the copy of a region, from the one with this number on; `None` where the parts are too many.
 ///
 /// # Errors
 /// The region, the two arrays and the index to begin at don't fit together; or out of memory.
@@ -100,12 +101,14 @@ pub(crate) fn region_copies_from(
     first: u64,
     limits: &Limits,
 ) -> Result<Option<Value>, Refusal<LineFault>>
-    ensures { MatchResult result (λ found. IfSome found (λ tree. IsRegionCopiesAnswer
-        first limits.now.most (grid_in region.now.source.grid).dimensions
+    ensures { MatchResult result (IsGiven (limits.now.too_many
+        * (2 * (5 * length (grid_in region.now.source.grid).dimensions) + 1))
+        (IsRegionCopiesAnswer first limits.now.most
+        (grid_in region.now.source.grid).dimensions
         (IsKey (encoding_in region.now.source.encoding))
         (grid_in region.now.target.grid).dimensions
         (IsKey (encoding_in region.now.target.encoding))
-        region.now.elements region.now.at.items (view tree)))
+        region.now.elements region.now.at.items))
         (OrMemory (IsNoRegionCopy (grid_in region.now.source.grid).dimensions
         (grid_in region.now.target.grid).dimensions region.now.elements region.now.at.items)) }
 {
@@ -115,6 +118,7 @@ pub(crate) fn region_copies_from(
         elements,
         at,
     } = region;
+    elements.is_a_box();
     let walk = match copies_of_region(alloc, source, target, elements, at) {
         Ok(walk) => walk,
         Err(Refusal::Refused(error)) => return Err(Refusal::Refused(LineFault::Region(error))),

@@ -1,10 +1,10 @@
 //! The items of a walk, from its beginning on.
-ghost use Rattle.std.specs.Prelude.{◌≡◌, ◌∷◌, [], IfOk, IfSome, List, map};
+ghost use Rattle.std.specs.Prelude.{◌≡◌, ◌∷◌, [], IfOk, List, map};
 ghost use Rattle.serde_json.specs.Data.{Data, array};
 ghost use Rattle.serde_json.specs.View.{items_of, view};
-ghost use Rattle.zarrs_chunk_questions.specs.Pages.{first_page, item_trees};
+ghost use Rattle.zarrs_chunk_questions.specs.Pages.{item_trees};
 ghost use Rattle.zarrs_chunk_questions.specs.Trees.{box_tree, numbers_tree};
-ghost use Rattle.zarrs_chunk_questions.specs.seen.Walked.{GivesTree, both_trees};
+ghost use Rattle.zarrs_chunk_questions.specs.seen.Walked.{GivesTree, IsFirstPage, both_trees};
 ghost use Rattle.zarrs_chunks.specs.Walks.{chunks_of};
 ghost use Rattle.zarrs_chunks.specs.seen.Walks.{AreBoxesOfGrid, AreChunksOfGrid, boxes_left, chunks_and_boxes_left, chunks_left};
 
@@ -96,8 +96,8 @@ pub(crate) fn pair_tree(alloc: Global, one: Value, other: Value) -> Result<Value
     Ok(Value::Array(both))
 }
 
-/// The tree of the first items of a walk over the chunks of a grid and of whether more follow: `{"items":[..],"more":b}`. `None` where the items are
-/// longer than there is room for.
+/// The tree of the first items of a walk over the chunks of a grid and of whether more follow: `{"items":[..],"more":b}`. `None` where there are too
+/// many items.
 ///
 /// # Errors
 /// Out of memory.
@@ -107,8 +107,8 @@ pub(crate) fn items_of_walk<G: ChunkGridTraits>(
     walk: WalkOf,
     limits: &Limits,
 ) -> Result<Option<Value>, AllocError>
-    ensures { IfOk result (λ found. IfSome found (λ tree. view tree ≡ first_page limits.now.most
-        (item_trees walk (G.dimensions grid.now) (chunks_of (G.dimensions grid.now))))) }
+    ensures { IfOk result (IsFirstPage limits.now.most limits.now.too_many
+        (item_trees walk (G.dimensions grid.now) (chunks_of (G.dimensions grid.now)))) }
 {
     match walk {
         WalkOf::Chunks => first_items(alloc, grid.iter_chunk_indices(alloc), limits),
@@ -129,8 +129,7 @@ fn first_items<W: TreeWalk>(
     limits: &Limits,
 ) -> Result<Option<Value>, AllocError>
     requires { W.is_walk walk }
-    ensures { IfOk result (λ found. IfSome found (λ tree.
-        view tree ≡ first_page limits.now.most (W.left walk))) }
+    ensures { IfOk result (IsFirstPage limits.now.most limits.now.too_many (W.left walk)) }
 {
     let mut items = Vec::new(alloc);
     while let Some(tree) = walk.next_tree(alloc)? {

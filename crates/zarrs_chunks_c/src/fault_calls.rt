@@ -18,9 +18,9 @@ pub extern "C" fn zarrs_grid_fault(
     words: &mut [u8],
     needed: &mut usize,
 ) -> i32
-    ensures ends { Ends (IsEndOf (grid_fault_call
-        shape.now chunk_grid.now needed.new)) result }
-    ensures told { Ends (λ end. IfErr end (λ fault. (fault ≡ Memory)
+    ensures ends { Ends (λ end. IsEndOf (grid_fault_call
+        shape.now chunk_grid.now needed.new) end
+        × IfErr end (λ fault. (fault ≡ Memory)
         ⊎ IsTold fault words.old words.new needed.new)) result }
     ensures kept_behind { drop needed.new words.new ≡ drop needed.new words.old }
 {
@@ -35,9 +35,9 @@ pub extern "C" fn zarrs_encoding_fault(
     words: &mut [u8],
     needed: &mut usize,
 ) -> i32
-    ensures ends { Ends (IsEndOf (encoding_fault_call
-        chunk_key_encoding.now needed.new)) result }
-    ensures told { Ends (λ end. IfErr end (λ fault. (fault ≡ Memory)
+    ensures ends { Ends (λ end. IsEndOf (encoding_fault_call
+        chunk_key_encoding.now needed.new) end
+        × IfErr end (λ fault. (fault ≡ Memory)
         ⊎ IsTold fault words.old words.new needed.new)) result }
     ensures kept_behind { drop needed.new words.new ≡ drop needed.new words.old }
 {

@@ -226,19 +226,19 @@ PLANTED = [
         "by_source.py worker",
     ),
     ("both stages are the second one", [("two_stages.sh", '--stage "$1"', "--stage 2")], "two_stages.py script"),
-    ("the array between is left", [("two_stages.sh", 'rm -rf "$between" ', "rm -rf ")], "two_stages.py script"),
+    ("the intermediate array is left", [("two_stages.sh", 'rm -rf "$between" ', "rm -rf ")], "two_stages.py script"),
     (
         "what was done under another bound is passed over",
         [("two_stages.sh", "&& ! cmp -s", "&& false && ! cmp -s")],
         "two_stages.py script",
     ),
     (
-        "another array between is taken",
+        "another intermediate array is taken",
         [("make_between.py", "if json.loads(path.read_text()) != metadata:", "if False:")],
         "two_stages.py script",
     ),
     (
-        "the array between has another fill value",
+        "the intermediate array has another fill value",
         [("make_between.py", "if source.fill is None else", "if True else")],
         "two_stages.py kinds",
     ),

@@ -61,10 +61,13 @@ def carry_out(lines, here, there):
 
 
 def bounds(source, target):
-    """The least number of elements by which two stages can go, and the least by which one does."""
-    ends = [math.prod(array.chunk_shape) if 0 not in array.shape else 1 for array in (source, target)]
-    edges = [min(max(size, 1), *pair) for size, *pair in zip(source.shape, source.chunk_shape, target.chunk_shape)]
-    return (1 if 0 in source.shape else math.prod(edges)) + max(ends), sum(ends)
+    """The least number of elements by which two stages can go, and the least by which one does: 0 for an array without
+    elements."""
+    if 0 in source.shape:
+        return 0, 0
+    ends = [math.prod(array.chunk_shape) for array in (source, target)]
+    edges = [min(size, *pair) for size, *pair in zip(source.shape, source.chunk_shape, target.chunk_shape)]
+    return math.prod(edges) + max(ends), sum(ends)
 
 
 def kinds(chunkplan, generator, count):
@@ -82,7 +85,7 @@ def kinds(chunkplan, generator, count):
                 elements = forget_some(generator, here, elements, fill)
                 source, target = open_array(here), open_array(there)
                 least, one = bounds(source, target)
-                most = generator.choice([least, one - 1, one, generator.randint(least, one), 10**6])
+                most = generator.choice([least, max(one - 1, 0), one, generator.randint(least, one), 10**6])
                 what = f"{formats}, move {number} of {dtype}, {shape}, {most} elements"
                 counts = counted(chunkplan, source, target, most)
                 if most < least:
@@ -145,7 +148,7 @@ def script(chunkplan, generator, count):
         told = run(701)
         yield "another bound in its room", told.returncode == 1 and "has another rechunking" in told.stderr
         told = tool("make_between.py", *ends, between, "--max-elements", 476, env=environment)
-        yield "another array between", told.returncode == 1 and "is another array's" in told.stderr
+        yield "another intermediate array", told.returncode == 1 and "is another array's" in told.stderr
         told = run(700)
         lines = (work / "done.1").read_text().splitlines()
         yield "it goes on", told.returncode == 0 and is_moved() and 0 < done < len(lines) and is_whole(lines)
@@ -167,7 +170,7 @@ def script(chunkplan, generator, count):
         (room / "losing").chmod(0o755)
         zarr.open_array(str(ends[1]))[3, 3] = 7
         told = run(700, CHUNKPLAN=str(room / "losing"))
-        yield "a chunk between was lost", told.returncode == 1 and f"of {between} isn't stored" in told.stderr
+        yield "an intermediate chunk was lost", told.returncode == 1 and f"of {between} isn't stored" in told.stderr
         yield "it is made again", run(700).returncode == 0 and is_moved()
         yield "where one stage would do", run(10**6, room / "more").returncode == 0 and is_moved()
         make_2(room / "texts", [4], [2], dtype="<U3")

@@ -1,8 +1,7 @@
 -- Counting lines.
-use Rattle.std.proofs.Common.{◌≡◌, ◌≢◌, ℕ, ◌+◌, ◌<◌, List, [], ◌∷◌, ◌++◌, length, refl, length-append, append-nil, append_assoc, arith}
-use Rattle.std.proofs.lemmas.Bool.Decides.{nat_tests}
-use Rattle.streams.specs.OneLine.{line_feeds, IsOneLine}
-use Rattle.programs.specs.chunkcalls.Lines.{AreAnswers, AreLinesFor, first_line, last_line, line_count, no_line}
+use Rattle.programs.proofs.chunkcalls.Common.{◌≡◌, ◌≢◌, ℕ, ◌+◌, ◌<◌, List, [], ◌∷◌, ◌++◌, length, refl, length-append, append-nil, append_assoc}
+use Rattle.programs.proofs.chunkcalls.Common.{arith, nat_tests, line_feeds, IsOneLine, AreAnswers, AreLinesFor, first_line, last_line, line_count}
+use Rattle.programs.proofs.chunkcalls.Common.{no_line}
 
 line_feeds-append : (front back : List ℕ) → line_feeds (front ++ back) ≡ line_feeds front + line_feeds back
 line_feeds-append [] back = omega arith

@@ -1,7 +1,6 @@
 -- The answers to lines that are ended, and to what comes behind them.
-use Rattle.std.proofs.Common.{◌≡◌, ℕ, List, [], ◌∷◌, ◌++◌, append-nil, append_assoc}
-use Rattle.streams.specs.OneLine.{line_feeds}
-use Rattle.programs.specs.chunkcalls.Lines.{AreAnswers, AreEndedAnswers, IsReplyTo, first_line, no_ended, one_ended}
+use Rattle.programs.proofs.chunkcalls.Common.{◌≡◌, ℕ, List, [], ◌∷◌, ◌++◌, append-nil, append_assoc, line_feeds, AreAnswers, AreEndedAnswers}
+use Rattle.programs.proofs.chunkcalls.Common.{IsReplyTo, first_line, no_ended, one_ended}
 
 pub ended_one : (line answer : List ℕ) → line_feeds line ≡ 0 → IsReplyTo line answer → AreEndedAnswers (line ++ 10 ∷ []) answer
 ended_one line answer unbroken is = rw append-nil at (one_ended line answer [] [] unbroken is no_ended)

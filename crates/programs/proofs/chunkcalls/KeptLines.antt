@@ -1,10 +1,8 @@
 -- What is kept of a line.
-use Rattle.std.proofs.Common.{◌≡◌, ◌≢◌, ◌∙◌, ℕ, suc, ◌+◌, ◌<◌, ◌≤◌, List, [], ◌∷◌, ◌++◌, ap, length, length-append, min, refl, subst, sym, ⊎_elim}
-use Rattle.std.proofs.Common.{take_all, arith}
+use Rattle.programs.proofs.chunkcalls.Common.{◌≡◌, ◌≢◌, ◌∙◌, ℕ, suc, ◌+◌, ◌<◌, ◌≤◌, List, [], ◌∷◌, ◌++◌, ap, length, length-append, min, refl, subst}
+use Rattle.programs.proofs.chunkcalls.Common.{sym, ⊎_elim, take_all, arith, length-take, take-append-le, IsReply, IsReplyTo, answered, long_answer}
+use Rattle.programs.proofs.chunkcalls.Common.{long_line, longest_line, IsBegun, kept}
 use Rattle.std.proofs.lemmas.Bool.{cases_lt}
-use Rattle.std.proofs.lemmas.List.{length-take, take-append-le}
-use Rattle.programs.specs.chunkcalls.Lines.{IsReply, IsReplyTo, answered, long_answer, long_line, longest_line}
-use Rattle.programs.specs.chunkcalls.seen.Answered.{IsBegun, kept}
 use Rattle.programs.proofs.chunkcalls.Counts.{line_feeds-push}
 
 pub nothing_begun : IsBegun [] []
@@ -52,7 +50,7 @@ of_whole line held reply is (one, replies) = (one, ⊎_elim long short (cases_lt
 
     of_long : longest_line < length line → IsReply held reply → IsReply line reply
     of_long many (long_line _ same) = long_line many same
-    of_long many (long_answer few _ _) = let n = counted in absurd (omega arith)
+    of_long many (long_answer few _ _ _) = let n = counted in absurd (omega arith)
     of_long many (answered few _) = let n = counted in absurd (omega arith)
 
     long : longest_line < length line → IsReply line reply

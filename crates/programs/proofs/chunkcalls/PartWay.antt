@@ -1,17 +1,13 @@
 -- What holds after some bytes were read, and the lines that ended in them were answered.
-use Rattle.std.proofs.Common.{◌≡◌, ◌∙◌, ℕ, ◌+◌, ◌<◌, List, [], ◌∷◌, ◌++◌, Option, None, Some, Result, Ok, Err, IfErr, IfSome, MatchResult, OnErr, OnOk, ◌≢◌, ap, inl, inr, ⊎_elim}
-use Rattle.std.proofs.Common.{append-nil, append_assoc, arith, get_or, length, length-append, refl, suc, sym, take}
+use Rattle.programs.proofs.chunkcalls.Common.{◌≡◌, ◌∙◌, ℕ, ◌+◌, ◌<◌, List, [], ◌∷◌, ◌++◌, Option, None, Some, Result, Ok, Err, IfErr, IfSome}
+use Rattle.programs.proofs.chunkcalls.Common.{MatchResult, OnErr, OnOk, ◌≢◌, ap, inl, inr, ⊎_elim, append-nil, append_assoc, arith, get_or, length}
+use Rattle.programs.proofs.chunkcalls.Common.{length-append, refl, suc, sym, take, nil_from_length, StreamFault, Memory, Read, Write, AreAnswers}
+use Rattle.programs.proofs.chunkcalls.Common.{AreAnswersRead, AreEndedAnswers, AreFirstAnswers, HasAnsweredRead, HasBegunAnswers, HoldsAnswers}
+use Rattle.programs.proofs.chunkcalls.Common.{IsReplyTo, last_line, no_ended, HasAnsweredBefore, HasAnsweredPiece, HasStopped, HasStoppedAt}
+use Rattle.programs.proofs.chunkcalls.Common.{HasStoppedIn, IsBegun, IsWriteFailure, HoldsAll, IsSent, Output, Sends, for_known, sends_more}
+use Rattle.programs.proofs.chunkcalls.Common.{sends_nothing}
 use Rattle.std.proofs.Math.Seq.{take-suc}
-use Rattle.std.proofs.lemmas.List.{nil_from_length}
 use Rattle.std.specs.Io.KnownBytes.{Consumes, IsAtEnd, Keeps}
-use Rattle.streams.specs.declared.stream_fault.StreamFault.{StreamFault}
-use Rattle.streams.specs.declared.stream_fault.StreamFault.TheVariants.{Memory, Read, Write}
-use Rattle.programs.specs.chunkcalls.Lines.{AreAnswers, AreAnswersRead, AreEndedAnswers, AreFirstAnswers, HasAnsweredRead, HasBegunAnswers, HoldsAnswers, IsReplyTo, last_line, no_ended}
-use Rattle.programs.specs.chunkcalls.seen.Answered.{HasAnsweredBefore, HasAnsweredPiece, HasStopped, HasStoppedAt, HasStoppedIn, IsBegun}
-use Rattle.streams.specs.Watched.{IsWriteFailure}
-use Rattle.streams.specs.seen.Sent.{HoldsAll, IsSent, Output, Sends}
-use Rattle.streams.proofs.Known.{for_known}
-use Rattle.streams.proofs.Sent.{sends_more, sends_nothing}
 use Rattle.programs.proofs.chunkcalls.Ended.{ended_more, ended_one, ended_then}
 use Rattle.programs.proofs.chunkcalls.KeptLines.{kept_bytes, nothing_begun, of_whole}
 

@@ -1,14 +1,8 @@
 -- The box that is read for a box, and why there is no plan of it.
-use Rattle.std.proofs.Common.{◌≢◌, Bool, true, false, List, length, subst, ⊎_elim}
-use Rattle.std.specs.List.{AllByRecursion}
-use Rattle.zarrs_chunk_base.specs.ArraySubset.{Box}
-use Rattle.zarrs_chunk_base.specs.Dimension.{Dimension, IsChain}
-use Rattle.zarrs_chunk_base.specs.Refusal.{TellsLengths}
+use Rattle.programs.proofs.chunkplan.Common.{◌≢◌, Bool, true, false, List, length, subst, ⊎_elim, AllByRecursion, Box, Dimension, IsChain}
+use Rattle.programs.proofs.chunkplan.Common.{TellsLengths, RunFault, SubsetDimensionality, Uncovered}
 use Rattle.zarrs_chunk_plan.proofs.Clipped.{is_covered}
-use Rattle.programs.specs.chunkplan.PlanFault.{IsReadFault}
-use Rattle.programs.specs.chunkplan.Planned.{IsAsked}
-use Rattle.programs.specs.declared.chunkplan.run_fault.RunFault.{RunFault}
-use Rattle.programs.specs.declared.chunkplan.run_fault.RunFault.TheVariants.{SubsetDimensionality, Uncovered}
+use Rattle.programs.specs.chunkplan.Planned.{IsReadFault, IsAsked}
 
 module _ (ds : List Dimension) (chains : AllByRecursion IsChain ds) (b asked : Box) where
   -- a box has no plan for the reason that the box has none that is read for it, and a clipped one is covered

@@ -1,26 +1,11 @@
 -- What a walk has given, and what it would still have given, are what it had to give; and what a share of it gives is a share of that.
-use Rattle.std.proofs.Common.{◌≡◌, List, ◌++◌, length}
-use Rattle.zarrs_chunk_base.specs.ArraySubset.{IsBox}
+use Rattle.programs.proofs.chunkplan.Common.{◌≡◌, List, ◌++◌, length, IsBox, ChunkKeyEncoding, IsPart, Meets, Group, AreMovedInto, Part, share_of}
+use Rattle.programs.proofs.chunkplan.Common.{Share, Parts, IsAboutCopies, first_of, region_of, target_of, targets_to_come, HasKeys, IsAbout}
+use Rattle.programs.proofs.chunkplan.Common.{chunks_to_come, MovesHaveCome, have_parts, have_moves, HaveCome, ChunkGrid, chained_in}
 use Rattle.zarrs_chunk_keys.proofs.OneKey.{has_key}
-use Rattle.zarrs_chunk_keys.specs.declared.chunk_key_encoding.named.ChunkKeyEncoding.{ChunkKeyEncoding}
 use Rattle.zarrs_chunk_keys.specs.seen.Encodings.{encoding_in}
-use Rattle.zarrs_chunk_parts.specs.Plan.{IsPart, Meets}
-use Rattle.zarrs_chunk_plan.specs.Rechunking.{Group}
-use Rattle.zarrs_chunk_plan.specs.Region.{AreMovedInto}
 use Rattle.zarrs_chunk_plan.specs.declared.copy.chunk_copies.Copies.{Copies}
-use Rattle.zarrs_chunk_parts.specs.declared.part.Part.{Part}
-use Rattle.zarrs_chunk_plan.specs.Shares.{share_of}
-use Rattle.zarrs_chunk_plan.specs.declared.shares.share.Share.{Share}
-use Rattle.zarrs_chunk_plan.specs.declared.read.walk.Parts.{Parts}
-use Rattle.zarrs_chunk_plan.specs.seen.Copies.{IsAboutCopies, first_of, region_of, target_of, targets_to_come}
-use Rattle.zarrs_chunk_plan.specs.seen.Parts.{HasKeys, IsAbout, chunks_to_come}
-use Rattle.zarrs_chunk_plan.proofs.Copied.{MovesHaveCome}
 use Rattle.zarrs_chunk_plan.proofs.ShareLists.{all_of_share, both_zipped, of_all}
-use Rattle.zarrs_chunk_plan.proofs.SomePlan.{have_parts}
-use Rattle.zarrs_chunk_plan.proofs.SomeRegions.{have_moves}
-use Rattle.zarrs_chunk_plan.proofs.Walked.{HaveCome}
-use Rattle.zarrs_chunks.specs.declared.chunk_grid.named.ChunkGrid.{ChunkGrid}
-use Rattle.zarrs_chunks.specs.seen.Grids.{chained_in}
 use Rattle.programs.specs.chunkplan.seen.Opened.{CanGiveCopies, CanGiveParts, CopiesToCome, PartsToCome, dimensions_in, key_in}
 
 pub keys_in : (encoding : ChunkKeyEncoding) → HasKeys (key_in encoding)

@@ -1,10 +1,7 @@
 -- Texts that are sent one behind another.
-use Rattle.std.proofs.Common.{◌≡◌, ◌∙◌, ℕ, List, [], ◌++◌, Result, Ok, Err, inl, inr, append-nil, refl, subst, sym, ⊎_elim}
+use Rattle.programs.proofs.chunkplan.Common.{◌≡◌, ◌∙◌, ℕ, List, [], ◌++◌, Result, Ok, Err, inl, inr, append-nil, refl, subst, sym, ⊎_elim, Output}
+use Rattle.programs.proofs.chunkplan.Common.{RunFault, Memory, Write, sends_longer, sends_more}
 use Rattle.programs.specs.chunkplan.seen.Steps.{HasBegun, HasSent, StepLeaves}
-use Rattle.streams.specs.seen.Sent.{Output}
-use Rattle.programs.specs.declared.chunkplan.run_fault.RunFault.{RunFault}
-use Rattle.programs.specs.declared.chunkplan.run_fault.RunFault.TheVariants.{Memory, Write}
-use Rattle.streams.proofs.Sent.{sends_longer, sends_more}
 
 -- a step that has no fault of its own stops
 abbrev pub Stops : (P : List ℕ → Type 0) → RunFault → Output → Output → Type 0

@@ -1,10 +1,8 @@
 -- Numbers as lists of decimal digits: what is pushed onto them, and their numerals.
-use Rattle.std.proofs.Common.{◌≡◌, ◌≢◌, ◌⊎◌, ◌∙◌, ℕ, zero, suc, ◌+◌, ◌*◌, ◌/◌, ◌%◌, ◌<◌, List, [], ◌∷◌, ◌++◌, get_or}
-use Rattle.std.proofs.Common.{length, length-append, refl, ap, sym, ⊎_elim, arith}
+use Rattle.programs.proofs.chunkplan.Common.{◌≡◌, ◌≢◌, ◌⊎◌, ◌∙◌, ℕ, zero, suc, ◌+◌, ◌*◌, ◌/◌, ◌%◌, ◌<◌, List, [], ◌∷◌, ◌++◌, get_or, length}
+use Rattle.programs.proofs.chunkplan.Common.{length-append, refl, ap, sym, ⊎_elim, arith, product, AreDigits, HasText, is_text, no_text, value_with}
 use Rattle.std.proofs.Math.Nat.{mul_assoc, mul_comm}
 use Rattle.zarrs_chunk_keys.specs.Numeral.{IsNumeral, digit, more_digits, one_digit}
-use Rattle.zarrs_chunk_plan.specs.Counts.{product}
-use Rattle.programs.specs.chunkplan.seen.Digits.{AreDigits, HasText, is_text, no_text, value_with}
 
 pub value_pushed : (digits : List ℕ) (one tens : ℕ) → value_with (digits ++ one ∷ []) tens ≡ value_with digits (one + 10 * tens)
 value_pushed [] one tens = refl

@@ -1,19 +1,10 @@
 -- What a document before keys asks for.
-use Rattle.std.proofs.Common.{◌≡◌, ◌⊎◌, ◌∙◌, ℕ, true, false, Contains, IsFalse, IsSome, List, Option, None, Some, Ok, codes, inl, inr, refl}
-use Rattle.std.proofs.Common.{arith, sym, true≢false}
-use Rattle.std.proofs.lemmas.List.Elements.{All-contains, All-from_recursion}
-use Rattle.std.proofs.lemmas.Option.{same_Some}
-use Rattle.serde_json.specs.Data.{Data}
-use Rattle.serde_json.specs.Find.{get}
-use Rattle.zarrs_chunk_base.specs.ArraySubset.{Box}
-use Rattle.zarrs_chunk_plan.specs.declared.shares.share.Share.{Share}
-use Rattle.documents.specs.Reading.{optional}
-use Rattle.documents.specs.Stored.{Stored}
-use Rattle.programs.specs.chunkplan.Document.{AsksForLinesOfCopy, Document, Task, Wanted, copy_to, document_in, flag_in, lines_wanted, rechunk_to}
-use Rattle.programs.specs.chunkplan.Document.{rechunking_in, region_in, task_in, wanted_in}
-use Rattle.programs.specs.chunkplan.Keys.{HasKeysBehind}
-use Rattle.programs.specs.chunkplan.MemberRules.{Fit, Rule, excludes, is_broken, needs, rules}
-use Rattle.programs.specs.declared.chunkplan.line.Order.TheVariants.{Target}
+use Rattle.programs.proofs.chunkplan.Common.{◌≡◌, ◌∙◌, ℕ, true, false, Contains, IsFalse, IsSome, List, Option, None, Some, Ok, codes, refl, arith}
+use Rattle.programs.proofs.chunkplan.Common.{sym, true≢false, All-contains, All-from_recursion, same_Some, Data, get, Share, optional, Stored}
+use Rattle.programs.proofs.chunkplan.Common.{AsksForLinesOfCopy, Copying, Document, HasGroups, Task, Wanted, copy_to, document_in, flag_in}
+use Rattle.programs.proofs.chunkplan.Common.{into_chunks, lines_wanted, to_region, rechunking_in, region_in, task_in, wanted_in, HasKeysBehind, Fit}
+use Rattle.programs.proofs.chunkplan.Common.{Rule, excludes, is_broken, needs, Target}
+use Rattle.programs.specs.chunkplan.MemberRules.{rules}
 
 -- ---- what a document has that breaks no rule
 
@@ -44,8 +35,7 @@ are_lines d wanted (counts, flag, by) none =
 
 -- the task is a rechunking in the order of the target, or the copy of a region
 abbrev IsCopy : Task → Type 0
-IsCopy task = ((stored : Stored) × (chunks : Option Box) × (task ≡ rechunk_to stored chunks))
-    ⊎ ((shape : List ℕ) × (stored : Stored) × (region : Box) × (at : Option (List ℕ)) × (task ≡ copy_to shape stored region at))
+IsCopy task = (stored : Stored) × (copied : Copying) × (task ≡ copy_to stored copied) × HasGroups copied
 
 module _ (d : Data) (task : Task) where
   to_target : (target : Data) (subset : Option Data) → get (codes "order") d ≡ None → get (codes "max_elements") d ≡ None
@@ -55,9 +45,9 @@ module _ (d : Data) (task : Task) where
       let (order, ordered, by) = rw none at is in
       let in_target : order ≡ Target = rw no_order at ordered in
       let (chunks, _, same) = rw in_target at by in
-      inl (stored, chunks, same)
+      (stored, into_chunks chunks, same, tt)
   to_target target (Some subset) no_order no_bound (_, _, (shape, _, (stored, _, (region, _, (at, _, same))))) =
-      inr (shape, stored, region, at, same)
+      (stored, to_region shape region at, same, tt)
 
   is_copy : (target : Option Data) → IsSome target → get (codes "resize") d ≡ None → get (codes "order") d ≡ None
       → get (codes "max_elements") d ≡ None → task_in d target (Ok task) → IsCopy task

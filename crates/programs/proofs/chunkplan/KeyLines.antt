@@ -1,22 +1,13 @@
 -- Keys behind a document, line after line.
-use Rattle.std.proofs.Common.{◌≡◌, ◌≢◌, ◌↔◌, ◌⊎◌, ◌∙◌, ℕ, Bool, List, [], ◌∷◌, ◌++◌, Contains, IfOk, IfSome, IsTrue, OnOk, Option, Result, Ok, Err, append-nil, append_assoc}
-use Rattle.std.proofs.Common.{ap, arith, inl, inr, length, refl, subst, sym, ⊎_elim}
-use Rattle.std.proofs.lemmas.List.Elements.{Contains-append_cases, Contains-append_left, Contains-append_right, Contains-push, Contains-push_cases}
+use Rattle.programs.proofs.chunkplan.Common.{◌≡◌, ◌≢◌, ◌↔◌, ◌⊎◌, ◌∙◌, ℕ, Bool, List, [], ◌∷◌, ◌++◌, Contains, IfOk, IfSome, IsTrue, OnOk, Option}
+use Rattle.programs.proofs.chunkplan.Common.{Result, Ok, Err, append-nil, append_assoc, ap, arith, inl, inr, length, refl, subst, sym, ⊎_elim}
+use Rattle.programs.proofs.chunkplan.Common.{Contains-append_cases, Contains-append_left, Contains-append_right, Contains-push, Contains-push_cases}
+use Rattle.programs.proofs.chunkplan.Common.{Dimension, IsOfArray, StoredChunks, Knows, AreForeign, AreKeys, IsFirstNoText, IsKeyOfTarget}
+use Rattle.programs.proofs.chunkplan.Common.{behind_first, empty_line, foreign_json, foreign_lines, key_line, no_line, unended, line_of}
+use Rattle.programs.proofs.chunkplan.Common.{IsReadFailure, of_stream, RunFault, KeyNotText, Memory, StreamFault}
 use Rattle.std.specs.Str.{IsUtf8}
-use Rattle.zarrs_chunk_base.specs.Dimension.{Dimension}
 use Rattle.zarrs_chunk_base.specs.StoreKey.{EndsInSlash}
-use Rattle.zarrs_chunk_plan.specs.StoredChunks.{IsOfArray}
-use Rattle.zarrs_chunk_plan.specs.declared.copy.stored_chunks.StoredChunks.{StoredChunks}
-use Rattle.zarrs_chunk_plan.specs.seen.StoredChunks.{Knows}
-use Rattle.programs.specs.chunkplan.Keys.{AreForeign, AreKeys, IsFirstNoText, IsKeyOfTarget, behind_first, empty_line, foreign_json, foreign_lines}
-use Rattle.programs.specs.chunkplan.Keys.{key_line, no_line, unended}
-use Rattle.programs.specs.chunkplan.Line.{line_of}
-use Rattle.streams.specs.Watched.{IsReadFailure}
-use Rattle.programs.specs.chunkplan.RunFault.{of_stream}
 use Rattle.programs.specs.chunkplan.seen.Missing.{HaveMarked, HaveNoted, IsKeysStop, with_line}
-use Rattle.programs.specs.declared.chunkplan.run_fault.RunFault.{RunFault}
-use Rattle.programs.specs.declared.chunkplan.run_fault.RunFault.TheVariants.{KeyNotText, Memory}
-use Rattle.streams.specs.declared.stream_fault.StreamFault.{StreamFault}
 
 -- ---- the keys in some lines
 

@@ -1,12 +1,10 @@
 -- What a step leaves that reads before it sends.
-use Rattle.std.proofs.Common.{◌≡◌, ◌⊎◌, ℕ, Bool, List, [], IsErrAnd, Option, Some, Result, Ok, Err, inl, inr, refl, ⊎_elim}
-use Rattle.programs.specs.chunkplan.Keys.{IsFirstNoText}
+use Rattle.programs.proofs.chunkplan.Common.{◌≡◌, ◌⊎◌, ℕ, Bool, List, [], IsErrAnd, Option, Some, Result, Ok, Err, inl, inr, refl, ⊎_elim}
+use Rattle.programs.proofs.chunkplan.Common.{IsFirstNoText, then, Output, RunFault, KeyNotText, Memory, Read, Write}
 use Rattle.programs.specs.chunkplan.seen.Missing.{IsKeysStop}
-use Rattle.programs.specs.chunkplan.seen.Steps.{ReadStepLeaves, StepLeaves}
-use Rattle.streams.specs.seen.Sent.{Output}
-use Rattle.programs.specs.declared.chunkplan.run_fault.RunFault.{RunFault}
-use Rattle.programs.specs.declared.chunkplan.run_fault.RunFault.TheVariants.{KeyNotText, Memory, Read, Write}
+use Rattle.programs.specs.chunkplan.seen.Steps.{ReadLeaves, ReadStepLeaves, StepLeaves}
 use Rattle.programs.proofs.chunkplan.Exits.{handed}
+use Rattle.programs.proofs.chunkplan.RunOutcomes.{Still, none_of_reading, none_of_writing}
 use Rattle.programs.proofs.chunkplan.Steps.{step_follows}
 
 module _ (P : List ℕ → Type 0) (F : RunFault → Type 0) (start : Bool) (left : Option (List ℕ)) (before : Output) where
@@ -48,3 +46,20 @@ module _ (P Q : List ℕ → Type 0) (F G : RunFault → Type 0) (step : (text :
   read_step_follows (Err Read) leaves = leaves
   read_step_follows (Err Write) leaves = (leaves.0, leaves.1, step_follows P Q F G step blames before after (Err Write) leaves.2)
   read_step_follows (Err fault) leaves = (leaves.0, step_follows P Q F G step blames before after (Err fault) leaves.1)
+
+-- what is read first of what is sent then: it was read, or not
+module _ {X : Type 0} (first : Result X RunFault → Type 0) (next : X → Result (List ℕ) RunFault → Type 0) (start : Bool) (left : Option (List ℕ))
+    (before : Output) where
+  pub read_later : (x : X) → first (Ok x) → (after : Output) (read : Bool) (r : Result (Unit {0}) RunFault)
+      → ReadLeaves (next x) r start read left before after → ReadLeaves (then first next) r start read left before after
+  read_later x is after read r leaves =
+      read_step_follows (λ text. next x (Ok text)) (λ text. then first next (Ok text)) (λ fault. next x (Err fault))
+      (λ fault. then first next (Err fault)) (λ text made. (x, is, made)) (λ fault fails. inr (x, is, fails)) start read left before after r leaves
+
+  pub read_first : Still (λ fault. first (Err fault)) → (r : Result (Unit {0}) RunFault) (fault : RunFault) → IsErrAnd r (λ other. other ≡ fault)
+      → (fault ≡ Memory) ⊎ first (Err fault) → ReadLeaves (then first next) r start start left before before
+  read_first never r fault same which =
+      read_step_follows (λ text. then first next (Ok text)) (λ text. then first next (Ok text)) (λ fault. first (Err fault))
+      (λ fault. then first next (Err fault)) (λ text made. made) (λ fault fails. inl fails) start start left before before r
+      (early_beside _ (λ fault. first (Err fault)) start left before (none_of_reading (λ fault. first (Err fault)) never)
+      (none_of_writing (λ fault. first (Err fault)) never) r fault same which (λ is. is))

@@ -1,18 +1,12 @@
 -- What was taken out of a document leaves the other members.
-use Rattle.std.proofs.Common.{◌≡◌, ◌≢◌, ◌∙◌, ℕ, false, List, Option, None, Some, Result, Ok, Err, ap, arith, bytes_eq, codes, inl, inr}
-use Rattle.std.proofs.Common.{length, refl, subst}
+use Rattle.programs.proofs.chunkplan.Common.{◌≡◌, ◌≢◌, ◌∙◌, ℕ, false, List, Option, None, Some, Result, Ok, Err, ap, arith, bytes_eq, codes, inl, inr}
+use Rattle.programs.proofs.chunkplan.Common.{length, refl, subst, Data, get, Box, edge_of, list_of, size_of, gives, optional, then, told, Stored}
+use Rattle.programs.proofs.chunkplan.Common.{DocumentFault, RangesWanted, Task, copying_in, of_array, ranges_by, ranges_in, rechunking_by}
+use Rattle.programs.proofs.chunkplan.Common.{rechunking_in, box_in, flag_in, line_order_in, object_of, read_of, rechunking_within, region_in}
+use Rattle.programs.proofs.chunkplan.Common.{target_stored_in, task_by, task_in, of_document, Order, Source, Target, RunFault}
 use Rattle.std.proofs.lemmas.Bool.Decides.{not_from_Decides}
 use Rattle.std.proofs.lemmas.Slice.Eq.{bytes_eq-Decides}
-use Rattle.serde_json.specs.Data.{Data}
-use Rattle.serde_json.specs.Find.{get}
-use Rattle.documents.specs.Reading.{optional}
-use Rattle.documents.specs.Stored.{Stored}
-use Rattle.documents.specs.declared.document_fault.DocumentFault.{DocumentFault}
-use Rattle.programs.specs.chunkplan.Document.{RangesWanted, Task, copying_in, of_array, ranges_by, ranges_in, rechunking_by, rechunking_in}
-use Rattle.programs.specs.chunkplan.Document.{rechunking_within, region_in, task_by, task_in}
-use Rattle.programs.specs.declared.chunkplan.line.Order.{Order}
-use Rattle.programs.specs.declared.chunkplan.line.Order.TheVariants.{Source, Target}
-use Rattle.programs.specs.declared.chunkplan.run_fault.RunFault.{RunFault}
+use Rattle.documents.specs.Document.{optional_in}
 
 module _ (d left : Data)
     (others : (name : List ℕ) → name ≢ codes "chunk_grid" → name ≢ codes "chunk_key_encoding" → name ≢ codes "target"
@@ -23,6 +17,20 @@ module _ (d left : Data)
     differs : (other : List ℕ) → bytes_eq name other ≡ false → name ≢ other
     differs other = not_from_Decides (bytes_eq name other) (bytes_eq-Decides name other)
 
+  -- what a reading is of the one object, it is of the other
+  abbrev Moves : {X F : Type 0} → (Data → Result X F → Type 0) → Type 0
+  Moves {X} {F} reading = (r : Result X F) → reading left r → reading d r
+
+  then_moves : {X Y F : Type 0} (first : Data → Result X F → Type 0) (next : Data → X → Result Y F → Type 0) → Moves first
+      → ((x : X) → Moves (λ d. next d x)) → Moves (λ d. then (first d) (next d))
+  then_moves first next here there (Ok y) (x, is, rest) = (x, here (Ok x) is, there x (Ok y) rest)
+  then_moves first next here there (Err fault) (inl is) = inl (here (Err fault) is)
+  then_moves first next here there (Err fault) (inr (x, is, rest)) = inr (x, here (Ok x) is, there x (Err fault) rest)
+
+  told_moves : {X F G : Type 0} (by : F → G) (reading : Data → Result X F → Type 0) → Moves reading → Moves (λ d. told by (reading d))
+  told_moves by reading here (Ok x) is = here (Ok x) is
+  told_moves by reading here (Err fault) (first, is, same) = (first, here (Err first) is, same)
+
   -- ---- byte ranges
 
   ranges_by_left : (item : Option ℕ) (r : Result (Option RangesWanted) DocumentFault) → ranges_by left item r → ranges_by d item r
@@ -30,11 +38,8 @@ module _ (d left : Data)
   ranges_by_left (Some item) (Ok ranges) is = rw (kept (codes "memory_order") refl refl refl, kept (codes "max_ranges") refl refl refl) at is
   ranges_by_left (Some item) (Err fault) is = rw (kept (codes "memory_order") refl refl refl, kept (codes "max_ranges") refl refl refl) at is
 
-  ranges_left : (r : Result (Option RangesWanted) DocumentFault) → ranges_in left r → ranges_in d r
-  ranges_left (Ok ranges) (item, is, rest) = (item, rw (kept (codes "item_size") refl refl refl) at is, ranges_by_left item (Ok ranges) rest)
-  ranges_left (Err fault) (inl is) = inl (rw (kept (codes "item_size") refl refl refl) at is)
-  ranges_left (Err fault) (inr (item, is, rest)) =
-      inr (item, rw (kept (codes "item_size") refl refl refl) at is, ranges_by_left item (Err fault) rest)
+  ranges_left : Moves ranges_in
+  ranges_left = then_moves (optional_in edge_of (codes "item_size")) ranges_by (λ r is. rw (kept (codes "item_size") refl refl refl) at is) ranges_by_left
 
   -- ---- what is asked for with a target
 
@@ -47,47 +52,24 @@ module _ (d left : Data)
       → rechunking_within d stored most r
   within_left stored (Some most) (Ok task) is = rw (kept (codes "stage") refl refl refl) at is
   within_left stored (Some most) (Err fault) is = rw (kept (codes "stage") refl refl refl) at is
-  within_left stored None (Ok task) (order, is, rest) = (order, rw (kept (codes "order") refl refl refl) at is, by_left stored order (Ok task) rest)
-  within_left stored None (Err fault) (inl is) = inl (rw (kept (codes "order") refl refl refl) at is)
-  within_left stored None (Err fault) (inr (order, is, rest)) =
-      inr (order, rw (kept (codes "order") refl refl refl) at is, by_left stored order (Err fault) rest)
+  within_left stored None r is =
+      then_moves (λ d. told of_document (line_order_in d)) (λ d. rechunking_by d stored)
+      (told_moves of_document line_order_in (λ r is. rw (kept (codes "order") refl refl refl) at is)) (by_left stored) r is
 
   array_left : (target : Data) (r : Result (Unit {0}) RunFault) → of_array left target r → of_array d target r
   array_left target (Ok done) is = rw (kept (codes "shape") refl refl refl, kept (codes "data_type") refl refl refl) at is
   array_left target (Err fault) is = rw (kept (codes "shape") refl refl refl, kept (codes "data_type") refl refl refl) at is
 
-  rechunking_left : (target : Data) (r : Result Task RunFault) → rechunking_in left target r → rechunking_in d target r
-  rechunking_left target (Ok task) (done, array, (stored, has, (most, is, rest))) = (
-    done,
-    array_left target (Ok done) array,
-    (
-      stored,
-      has,
-      (
-        most,
-        rw (kept (codes "max_elements") refl refl refl) at is,
-        within_left stored most (Ok task) rest,
-      ),
-    ),
-  )
-  rechunking_left target (Err fault) (inl is) = inl (array_left target (Err fault) is)
-  rechunking_left target (Err fault) (inr (done, array, inl is)) = inr (done, array_left target (Ok done) array, inl is)
-  rechunking_left target (Err fault) (inr (done, array, inr (stored, has, inl is))) =
-      inr (done, array_left target (Ok done) array, inr (stored, has, inl (rw (kept (codes "max_elements") refl refl refl) at is)))
-  rechunking_left target (Err fault) (inr (done, array, inr (stored, has, inr (most, is, rest)))) =
-      inr (
-        done,
-        array_left target (Ok done) array,
-        inr (
-          stored,
-          has,
-          inr (
-            most,
-            rw (kept (codes "max_elements") refl refl refl) at is,
-            within_left stored most (Err fault) rest,
-          ),
-        ),
-      )
+  abbrev bounded : (stored : Stored) → Data → Result Task RunFault → Type 0
+  bounded stored d = then (told of_document (optional_in size_of (codes "max_elements") d)) (rechunking_within d stored)
+
+  rechunking_left : (target : Data) → Moves (λ d. rechunking_in d target)
+  rechunking_left target =
+      then_moves (λ d. of_array d target) (λ d _. then (told of_document (target_stored_in target)) (λ stored. bounded stored d)) (array_left target)
+      (λ _. then_moves (λ _. told of_document (target_stored_in target)) (λ d stored. bounded stored d) (λ r is. is)
+      (λ stored. then_moves (λ d. told of_document (optional_in size_of (codes "max_elements") d)) (λ d. rechunking_within d stored)
+      (told_moves of_document (optional_in size_of (codes "max_elements")) (λ r is. rw (kept (codes "max_elements") refl refl refl) at is))
+      (within_left stored)))
 
   region_left : (target subset : Data) (r : Result Task RunFault) → region_in left target subset r → region_in d target subset r
   region_left target subset (Ok task) is = rw (kept (codes "data_type") refl refl refl, kept (codes "at") refl refl refl) at is
@@ -100,35 +82,21 @@ module _ (d left : Data)
 
   -- ---- what is asked for
 
-  copying_left : (target : Option Data) (r : Result Task RunFault) → copying_in left target r → copying_in d target r
-  copying_left None (Ok task) (subset, box, (clip, flag, (ranges, has, same))) = (
-    subset,
-    rw (kept (codes "subset") refl refl refl) at box,
-    (
-      clip,
-      rw (kept (codes "clip") refl refl refl) at flag,
-      (ranges, ranges_left (Ok ranges) has, same),
-    ),
-  )
-  copying_left None (Err fault) (inl is) = inl (rw (kept (codes "subset") refl refl refl) at is)
-  copying_left None (Err fault) (inr (subset, box, inl is)) =
-      inr (subset, rw (kept (codes "subset") refl refl refl) at box, inl (rw (kept (codes "clip") refl refl refl) at is))
-  copying_left None (Err fault) (inr (subset, box, inr (clip, flag, inl (told, is, same)))) =
-      inr (
-        subset,
-        rw (kept (codes "subset") refl refl refl) at box,
-        inr (
-          clip,
-          rw (kept (codes "clip") refl refl refl) at flag,
-          inl (told, ranges_left (Err told) is, same),
-        ),
-      )
-  copying_left None (Err fault) (inr (subset, box, inr (clip, flag, inr (ranges, has, none)))) = absurd none
-  copying_left (Some target) (Ok task) (members, object, is) =
-      (members, object, to_left target (get (codes "subset") d) (Ok task) (rw (kept (codes "subset") refl refl refl) at is))
-  copying_left (Some target) (Err fault) (inl is) = inl is
-  copying_left (Some target) (Err fault) (inr (members, object, is)) =
-      inr (members, object, to_left target (get (codes "subset") d) (Err fault) (rw (kept (codes "subset") refl refl refl) at is))
+  abbrev flagged : Option Box → Data → Result Task RunFault → Type 0
+  flagged subset d = then (told of_document (flag_in (codes "clip") d)) (λ clip. then (told of_document (ranges_in d)) (λ ranges.
+      gives (read_of subset clip ranges)))
+
+  copying_left : (target : Option Data) → Moves (λ d. copying_in d target)
+  copying_left None =
+      then_moves (box_in (codes "subset")) (λ d subset. flagged subset d) (λ r is. rw (kept (codes "subset") refl refl refl) at is)
+      (λ subset. then_moves (λ d. told of_document (flag_in (codes "clip") d))
+      (λ d clip. then (told of_document (ranges_in d)) (λ ranges. gives (read_of subset clip ranges)))
+      (told_moves of_document (flag_in (codes "clip")) (λ r is. rw (kept (codes "clip") refl refl refl) at is))
+      (λ clip. then_moves (λ d. told of_document (ranges_in d)) (λ _ ranges. gives (read_of subset clip ranges))
+      (told_moves of_document ranges_in ranges_left) (λ ranges r is. is)))
+  copying_left (Some target) =
+      then_moves (λ _. told of_document (object_of target)) (λ d _. optional (rechunking_in d target) (region_in d target) (get (codes "subset") d))
+      (λ r is. is) (λ _ r is. to_left target (get (codes "subset") d) r (rw (kept (codes "subset") refl refl refl) at is))
 
   task_by_left : (target : Option Data) (resize : Option (List ℕ)) (r : Result Task RunFault) → task_by left target resize r
       → task_by d target resize r
@@ -136,12 +104,11 @@ module _ (d left : Data)
   task_by_left target (Some shape) (Ok task) is = rw (kept (codes "keep") refl refl refl) at is
   task_by_left target (Some shape) (Err fault) is = rw (kept (codes "keep") refl refl refl) at is
 
-  task_left : (target : Option Data) (r : Result Task RunFault) → task_in left target r → task_in d target r
-  task_left target (Ok task) (resize, is, rest) =
-      (resize, rw (kept (codes "resize") refl refl refl) at is, task_by_left target resize (Ok task) rest)
-  task_left target (Err fault) (inl is) = inl (rw (kept (codes "resize") refl refl refl) at is)
-  task_left target (Err fault) (inr (resize, is, rest)) =
-      inr (resize, rw (kept (codes "resize") refl refl refl) at is, task_by_left target resize (Err fault) rest)
+  task_left : (target : Option Data) → Moves (λ d. task_in d target)
+  task_left target =
+      then_moves (λ d. told of_document (optional_in (list_of size_of) (codes "resize") d)) (λ d. task_by d target)
+      (told_moves of_document (optional_in (list_of size_of) (codes "resize")) (λ r is. rw (kept (codes "resize") refl refl refl) at is))
+      (task_by_left target)
 
 -- where the target was taken out after the two that say how the array is stored
 pub left_of : (d between left : Data)

@@ -1,11 +1,8 @@
 -- Lines of what a walk gives, one after another, each by its number.
-use Rattle.std.proofs.Common.{◌≡◌, ◌∙◌, ℕ, suc, ◌+◌, List, [], ◌∷◌, ◌++◌, Some, length, length-append, append_assoc, append-nil, ap, refl, sym, arith}
+use Rattle.programs.proofs.chunkplan.Common.{◌≡◌, ◌∙◌, ℕ, suc, ◌+◌, List, [], ◌∷◌, ◌++◌, Some, length, length-append, append_assoc, append-nil, ap}
+use Rattle.programs.proofs.chunkplan.Common.{refl, sym, arith, lines_from, Output, RunFault, Memory}
 use Rattle.zarrs_chunk_plan.specs.Counted.{counted}
-use Rattle.programs.specs.chunkplan.Line.{lines_from}
 use Rattle.programs.specs.chunkplan.seen.Steps.{HasSent}
-use Rattle.streams.specs.seen.Sent.{Output}
-use Rattle.programs.specs.declared.chunkplan.run_fault.RunFault.{RunFault}
-use Rattle.programs.specs.declared.chunkplan.run_fault.RunFault.TheVariants.{Memory}
 use Rattle.programs.proofs.chunkplan.Behind.{Begins, Behind, Stops, memory_after, sent_behind, stops_behind}
 
 pub counted_first : counted 0 ≡ Some 0

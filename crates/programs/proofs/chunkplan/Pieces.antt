@@ -1,27 +1,19 @@
 -- A line in the pieces in which it is sent is the line.
-use Rattle.std.proofs.Common.{◌≡◌, ◌∙◌, ℕ, zero, suc, ◌<◌, ◌≤◌, Bool, true, false, List, []}
-use Rattle.std.proofs.Common.{◌∷◌, ◌++◌, codes, Option, None, Some, append_assoc, ap, ap₂, arith, refl, sym, ⊎_elim}
+use Rattle.programs.proofs.chunkplan.Common.{◌≡◌, ◌∙◌, ℕ, zero, suc, ◌<◌, ◌≤◌, Bool, true, false, List, [], ◌∷◌, ◌++◌, codes, Option, None, Some}
+use Rattle.programs.proofs.chunkplan.Common.{append_assoc, ap, ap₂, arith, refl, sym, ⊎_elim, fold, begins, ends, print, separator, Token}
+use Rattle.programs.proofs.chunkplan.Common.{begin_array, begin_object, boolean, end_array, end_object, key, string, items_tokens, json_tokens}
+use Rattle.programs.proofs.chunkplan.Common.{members_tokens, cases_lt, le-leb, lt-leb, Part, shifted, RangesWanted, box_json, chunk_json, count_json}
+use Rattle.programs.proofs.chunkplan.Common.{end_members, group_json, group_line, lines_from, numbers_json, part_json, piece_json, pieces_items}
+use Rattle.programs.proofs.chunkplan.Common.{place_name, begin_of_line, begin_tokens, comma_before, end_of_line, end_tokens, piece_text}
+use Rattle.programs.proofs.chunkplan.Common.{ranges_tokens, whole_tokens, unbroken, Order, Source, Target}
 use Rattle.std.proofs.lemmas.Grind.{fold-append}
-use Rattle.std.specs.List.{fold}
-use Rattle.json.specs.Json.{Json, null, boolean as boolean_json, number, string as string_json, array, object, Items, no_items, item, Members, no_members}
-use Rattle.json.specs.Json.{member}
-use Rattle.json.specs.Print.{begins, ends, escape_byte, print, print_from, separator}
-use Rattle.json.specs.Token.{Token, begin_array, begin_object, boolean, end_array, end_object, key, string}
-use Rattle.json.specs.Tree.{items_tokens, json_tokens, members_tokens}
+use Rattle.json.specs.Json.{Json, null, boolean as boolean_json, number, string as string_json, array, object, Items, no_items, item, Members}
+use Rattle.json.specs.Json.{no_members, member}
+use Rattle.json.specs.Print.{escape_byte, print_from}
 use Rattle.json.proofs.Printed.Tokens.{print_from-append}
-use Rattle.std.proofs.lemmas.Bool.{cases_lt, le-leb, lt-leb}
 use Rattle.zarrs_chunk_base.specs.Greatest.{greatest}
 use Rattle.zarrs_chunk_plan.specs.Counted.{counted}
-use Rattle.zarrs_chunk_parts.specs.declared.part.Part.{Part}
-use Rattle.zarrs_chunk_plan.specs.Region.{shifted}
-use Rattle.programs.specs.chunkplan.Document.{RangesWanted}
-use Rattle.programs.specs.chunkplan.Line.{box_json, chunk_json, count_json, end_members, group_json, group_line, lines_from, numbers_json, part_json}
-use Rattle.programs.specs.chunkplan.Line.{piece_json, pieces_items, place_name}
-use Rattle.programs.specs.chunkplan.seen.Pieces.{begin_of_line, begin_tokens, comma_before, end_of_line, end_tokens, piece_text, ranges_tokens, whole_tokens}
-use Rattle.streams.specs.OneLine.{unbroken}
 use Rattle.streams.proofs.OneLines.{unbroken-append}
-use Rattle.programs.specs.declared.chunkplan.line.Order.{Order}
-use Rattle.programs.specs.declared.chunkplan.line.Order.TheVariants.{Source, Target}
 
 -- whether a value has just ended behind these tokens
 abbrev ended : Bool → List Token → Bool

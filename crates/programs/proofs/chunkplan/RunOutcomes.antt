@@ -1,28 +1,19 @@
 -- The outcomes of a run, put together from its steps.
-use Rattle.std.proofs.Common.{◌≡◌, ◌∙◌, ℕ, Bool, true, false, List, [], ◌++◌, Option, Some, Ok, Err, append_assoc, ap, arith, inl, inr}
-use Rattle.std.proofs.Common.{sym, true≢false}
-use Rattle.std.proofs.Common.{⊎_elim}
-use Rattle.serde_json.specs.Data.{Data}
-use Rattle.zarrs_chunk_base.specs.ArraySubset.{Box}
-use Rattle.zarrs_chunk_base.specs.Dimension.{Dimension}
+use Rattle.programs.proofs.chunkplan.Common.{◌≡◌, ◌∙◌, ℕ, Bool, true, false, List, [], ◌++◌, Option, None, Some, Result, Ok, Err, append_assoc, ap}
+use Rattle.programs.proofs.chunkplan.Common.{arith, inl, inr, sym, true≢false, ⊎_elim, Data, Box, then, Stored, Document, Task, Wanted, copying_in}
+use Rattle.programs.proofs.chunkplan.Common.{document_in, form_in, rechunking_in, region_in, Copying, by_source, copy_to, counts_wanted, into_chunks}
+use Rattle.programs.proofs.chunkplan.Common.{lines_wanted, read_of, resize_to, to_region, within_bound, behind_first, first_line, of_create}
+use Rattle.programs.proofs.chunkplan.Common.{of_document, of_stream, of_target, Output, RunFault, Memory, Read, Write, DocumentFault, StreamFault}
 use Rattle.zarrs_chunk_plan.specs.declared.copy.region_error.RegionError.{RegionError}
 use Rattle.streams.specs.Streams.{IsReadToEnd, Streams}
-use Rattle.programs.specs.chunkplan.Document.{Document, Wanted, copying_in, document_in, form_in, rechunking_in, region_in}
-use Rattle.programs.specs.chunkplan.PlanFault.{IsCopyFault, IsFaultBeside, IsFirstFault, IsPlanFault, IsWholeFault}
-use Rattle.programs.specs.chunkplan.PlanFault.{beside_keys, long_document, no_document, no_first_document, of_input, several_lines}
-use Rattle.programs.specs.chunkplan.PlanFault.{IsFaultWithin, no_plan}
-use Rattle.programs.specs.chunkplan.Keys.{behind_first, first_line}
-use Rattle.programs.specs.chunkplan.Planned.{IsPlanOf}
+use Rattle.programs.specs.chunkplan.Planned.{Array, IsPlanOf, begins_at, beside_by, copy_beside, copy_text, groups_of, missing_text}
+use Rattle.programs.specs.chunkplan.Planned.{of_document as of_whole, of_input, of_keys, region_of, several_lines, source_in, target_in, target_shape}
+use Rattle.programs.specs.chunkplan.Planned.{text_beside, text_by, text_unless, whole_in, within_text}
 use Rattle.programs.specs.chunkplan.Run.{HasBegunPlan, RunLeaves}
-use Rattle.programs.specs.chunkplan.RunFault.{of_create, of_document, of_region as of_region_error, of_stream}
+use Rattle.programs.specs.chunkplan.RunFault.{of_region as of_region_error}
 use Rattle.programs.specs.chunkplan.seen.Steps.{HasBegun, InputStepLeaves}
-use Rattle.streams.specs.seen.Sent.{Output}
-use Rattle.programs.specs.declared.chunkplan.run_fault.RunFault.{RunFault}
-use Rattle.programs.specs.declared.chunkplan.run_fault.RunFault.TheVariants.{Memory, Read, Write}
 use Rattle.programs.specs.declared.chunkplan.document.Stage.{Stage}
-use Rattle.documents.specs.declared.document_fault.DocumentFault.{DocumentFault}
 use Rattle.documents.specs.declared.stored.CreateFault.{CreateFault}
-use Rattle.streams.specs.declared.stream_fault.StreamFault.{StreamFault}
 use Rattle.streams.specs.declared.stream_fault.StreamFault.TheVariants.{Write as WriteFailed}
 
 -- ---- a fault of an input is none of reading or writing
@@ -32,8 +23,18 @@ moves Read = true
 moves Write = true
 moves _ = false
 
+-- it is none of these
+abbrev pub Still : (RunFault → Type 0) → Type 0
+Still P = (fault : RunFault) → P fault → moves fault ≡ false
+
+pub none_of_reading : (P : RunFault → Type 0) → Still P → ¬ P Read
+none_of_reading P never is = true≢false (never Read is)
+
+pub none_of_writing : (P : RunFault → Type 0) → Still P → ¬ P Write
+none_of_writing P never is = true≢false (never Write is)
+
 -- what holds of neither holds of others alone
-still : (P : RunFault → Type 0) → ¬ P Read → ¬ P Write → (fault : RunFault) → P fault → moves fault ≡ false
+pub still : (P : RunFault → Type 0) → ¬ P Read → ¬ P Write → Still P
 still P no_read no_write fault is = grind arith
 
 of_document_still : (told : DocumentFault) → moves (of_document told) ≡ false
@@ -42,73 +43,99 @@ of_document_still told = grind arith
 of_create_still : (told : CreateFault) → moves (of_create told) ≡ false
 of_create_still told = grind arith
 
+of_target_still : (told : CreateFault) → moves (of_target told) ≡ false
+of_target_still told = grind arith
+
 of_region_still : (told : RegionError) → moves (of_region_error told) ≡ false
 of_region_still told = grind arith
 
-target_still : (d target : Data) (fault : RunFault) → rechunking_in d target (Err fault) → moves fault ≡ false
-target_still d target fault is = grind (arith, of_document_still)
+then_still : {X Y : Type 0} (first : Result X RunFault → Type 0) (next : X → Result Y RunFault → Type 0) → Still (λ fault. first (Err fault))
+    → ((x : X) → Still (λ fault. next x (Err fault))) → Still (λ fault. then first next (Err fault))
+then_still first next here there fault (inl is) = here fault is
+then_still first next here there fault (inr (x, _, is)) = there x fault is
 
-region_still : (d target subset : Data) (fault : RunFault) → region_in d target subset (Err fault) → moves fault ≡ false
-region_still d target subset fault is = grind (arith, of_document_still)
+pub source_still : (document : Document) → Still (λ fault. source_in document (Err fault))
+source_still document fault (told, _, same) = ap moves same ∙ of_create_still told
+
+pub target_still : (stored : Stored) (shape : List ℕ) → Still (λ fault. target_in stored shape (Err fault))
+target_still stored shape fault (told, _, same) = ap moves same ∙ of_target_still told
+
+pub region_still : (source : Array) (region : Box) (at : List ℕ) (target : Array) → Still (λ fault. region_of source region at target (Err fault))
+region_still source region at target fault (told, _, same) = ap moves same ∙ of_region_still told
+
+-- ---- of a document
+
+asked_rechunking_still : (d target : Data) (fault : RunFault) → rechunking_in d target (Err fault) → moves fault ≡ false
+asked_rechunking_still d target fault is = grind (arith, of_document_still)
+
+asked_region_still : (d target subset : Data) (fault : RunFault) → region_in d target subset (Err fault) → moves fault ≡ false
+asked_region_still d target subset fault is = grind (arith, of_document_still)
 
 copying_still : (d : Data) (target : Option Data) (fault : RunFault) → copying_in d target (Err fault) → moves fault ≡ false
-copying_still d target fault is = grind (arith, of_document_still, region_still, target_still)
+copying_still d target fault is = grind (arith, of_document_still, asked_region_still, asked_rechunking_still)
 
 form_still : (d : Data) (fault : RunFault) → form_in d (Err fault) → moves fault ≡ false
 form_still d fault is = grind (arith, of_document_still, copying_still)
 
-copy_still : (source target : List Dimension) (region : Box) (at : List ℕ) (fault : RunFault) → IsCopyFault source target region at fault
-    → moves fault ≡ false
-copy_still source target region at fault (told, _, same) = ap moves same ∙ of_region_still told
-
-within_still : (source target : List Dimension) (most : ℕ) (stage : Option Stage) (wanted : Wanted) (fault : RunFault)
-    → IsFaultWithin source target most stage wanted fault → moves fault ≡ false
-within_still source target most stage wanted fault is = grind arith
-
-plan_still : (document : Document) (fault : RunFault) → IsPlanFault document fault → moves fault ≡ false
-plan_still document fault is = grind (arith, of_create_still, copy_still, within_still)
-
-input_still : (input : List ℕ) (fault : RunFault) → document_in input (Err fault) → moves fault ≡ false
+pub input_still : (input : List ℕ) → Still (λ fault. document_in input (Err fault))
 input_still input fault (inl (told, _, same)) = ap moves same ∙ of_document_still told
 input_still input fault (inr (d, _, is)) = form_still d fault is
 
-beside_still : (document : Document) (bytes : List ℕ) (fault : RunFault) → IsFaultBeside document bytes fault → moves fault ≡ false
-beside_still document bytes fault is = grind (arith, plan_still)
-
-whole_still : (input : List ℕ) (fault : RunFault) → IsWholeFault input fault → moves fault ≡ false
+pub whole_still : (input : List ℕ) → Still (λ fault. whole_in input (Err fault))
 whole_still input fault (of_input is _) = input_still input fault is
 whole_still input fault (several_lines _ _ same) = ap moves same
 
-first_still : (input : List ℕ) (fault : RunFault) → IsFirstFault input fault → moves fault ≡ false
-first_still input fault (no_document _ is) = whole_still input fault is
-first_still input fault (long_document _ _ _ _ same) = ap moves same
-first_still input fault (no_plan document _ _ _ is) = plan_still document fault is
-first_still input fault (no_first_document _ is) = input_still (first_line input) fault is
-first_still input fault (beside_keys document _ _ is) = beside_still document (behind_first input) fault is
+-- ---- of what it wants
 
-pub no_failed_write : (document : Document) → ¬ IsPlanFault document Write
-no_failed_write document is = true≢false (plan_still document Write is)
+within_still : (most : ℕ) (stage : Option Stage) (wanted : Wanted) (source target : Array)
+    → Still (λ fault. within_text most stage wanted source target (Err fault))
+within_still most (Some stage) wanted source target = still _ (λ never. never) (λ never. never)
+within_still most None (lines_wanted share) source target = still _ (λ never. never) (λ never. never)
+within_still most None counts_wanted source target = still _ (λ never. never) (λ never. never)
 
-pub no_failed_copy : (source target : List Dimension) (region : Box) (at : List ℕ) → ¬ IsCopyFault source target region at Write
-no_failed_copy source target region at is = true≢false (copy_still source target region at Write is)
+copy_still : (copying : Copying) (wanted : Wanted) (source target : Array) → Still (λ fault. copy_text copying wanted source target (Err fault))
+copy_still (into_chunks chunks) wanted source target = still _ (λ never. never) (λ never. never)
+copy_still by_source wanted source target = still _ (λ never. never) (λ never. never)
+copy_still (within_bound most stage) wanted source target = within_still most stage wanted source target
+copy_still (to_region shape region at) wanted source target = region_still source region (begins_at region at) target
 
-pub no_write : (input : List ℕ) → ¬ IsFirstFault input Write
-no_write input is = true≢false (first_still input Write is)
+text_still : (document : Document) (source : Array) (task : Task) → Still (λ fault. text_by document source task (Err fault))
+text_still document source (read_of subset clip ranges) = still _ (λ never. never) (λ never. never)
+text_still document source (copy_to stored copying) =
+    then_still (target_in stored (target_shape copying document.shape)) (copy_text copying document.wanted source)
+    (target_still stored (target_shape copying document.shape)) (copy_still copying document.wanted source)
+text_still document source (resize_to shape keep) = still _ (λ never. never) (λ never. never)
 
-pub no_read_beside : (document : Document) (bytes : List ℕ) → ¬ IsFaultBeside document bytes Read
-no_read_beside document bytes is = true≢false (beside_still document bytes Read is)
+unless_still : (keys : Bool) (document : Document) → Still (λ fault. text_unless keys document (Err fault))
+unless_still false document =
+    then_still (source_in document) (λ source. text_by document source document.task) (source_still document)
+    (λ source. text_still document source document.task)
+unless_still true document = λ fault same. ap moves same
 
-pub no_write_beside : (document : Document) (bytes : List ℕ) → ¬ IsFaultBeside document bytes Write
-no_write_beside document bytes is = true≢false (beside_still document bytes Write is)
+pub groups_still : (copying : Copying) (source target : Array) → Still (λ fault. groups_of copying source target (Err fault))
+groups_still (into_chunks chunks) source target = still _ (λ never. never) (λ never. never)
+groups_still by_source source target = λ fault none. absurd none
+groups_still (within_bound most stage) source target = λ fault none. absurd none
+groups_still (to_region shape region at) source target = region_still source region (begins_at region at) target
 
-pub no_read_of_input : (input : List ℕ) → ¬ document_in input (Err Read)
-no_read_of_input input is = true≢false (input_still input Read is)
+beside_still : (document : Document) (bytes : List ℕ) (wanted : Wanted) (task : Task) (source : Array)
+    → Still (λ fault. beside_by document bytes wanted task source (Err fault))
+beside_still document bytes (lines_wanted share) (copy_to stored copying) source =
+    then_still (target_in stored (target_shape copying document.shape)) (copy_beside copying share bytes source)
+    (target_still stored (target_shape copying document.shape))
+    (λ target. then_still (groups_of copying source target) (missing_text share bytes target) (groups_still copying source target)
+    (λ groups. still _ (λ never. never) (λ never. never)))
+beside_still document bytes (lines_wanted share) (read_of subset clip ranges) source = λ fault none. absurd none
+beside_still document bytes (lines_wanted share) (resize_to shape keep) source = λ fault none. absurd none
+beside_still document bytes counts_wanted task source = λ fault none. absurd none
 
-pub no_write_of_input : (input : List ℕ) → ¬ document_in input (Err Write)
-no_write_of_input input is = true≢false (input_still input Write is)
-
-pub no_read : (input : List ℕ) → ¬ IsFirstFault input Read
-no_read input is = true≢false (first_still input Read is)
+pub plan_still : (input : List ℕ) → Still (λ fault. IsPlanOf input (Err fault))
+plan_still input fault (of_whole _ is) =
+    then_still (whole_in input) (λ document. text_unless document.keys document) (whole_still input) (λ document. unless_still document.keys document) fault is
+plan_still input fault (of_keys _ is) =
+    then_still (document_in (first_line input)) (λ document. text_beside document (behind_first input)) (input_still (first_line input))
+    (λ document. then_still (source_in document) (beside_by document (behind_first input) document.wanted document.task) (source_still document)
+    (beside_still document (behind_first input) document.wanted document.task)) fault is
 
 -- ---- sending
 
@@ -117,7 +144,7 @@ module _ (input held : List ℕ) (s : Streams) (before : Output) (known : before
   abbrev After : Output
   After = record { holds = s.holds; held_back = held_back; failed = s.write_failed }
 
-  begun : HasBegun (IsPlanOf input) before After → HasBegunPlan input held s
+  begun : HasBegun (λ text. IsPlanOf input (Ok text)) before After → HasBegunPlan input held s
   begun (text, is, rest, sends) =
       let (sent, now, parts) = rw (known, none) at sends in
       (text, sent, rest, is, parts, now)
@@ -132,7 +159,7 @@ module _ (input held : List ℕ) (s : Streams) (before : Output) (known : before
 -- ---- writing what was held back
 
 module _ (input held : List ℕ) (s : Streams) (end : IsReadToEnd s) (before : Bool) (not_failed : before ≡ false) (text sent waiting : List ℕ)
-    (is : IsPlanOf input text) (parts : text ≡ sent ++ waiting) where
+    (is : IsPlanOf input (Ok text)) (parts : text ≡ sent ++ waiting) where
   pub all_written : (s.holds ≡ Some ((held ++ sent) ++ waiting)) → (s.write_failed ≡ before) → RunLeaves input held (Ok tt) s
   all_written ok unfailed =
       (end, text, is, (ok ∙ ap Some (append_assoc held sent waiting ∙ ap (λ xs. held ++ xs) (sym parts)), unfailed ∙ not_failed))

@@ -1,16 +1,13 @@
 -- What a step leaves that sends the text of a plan, in other words.
-use Rattle.std.proofs.Common.{◌≡◌, ◌⊎◌, ℕ, IfOk, IsErrAnd, List, Result, Ok, Err, Vec, inl, inr, refl, ⊎_elim, arith}
-use Rattle.std.specs.declared.alloc.AllocError.{AllocError}
+use Rattle.programs.proofs.chunkplan.Common.{◌≡◌, ◌⊎◌, ℕ, IfOk, IsErrAnd, List, Result, Ok, Err, Vec, inl, inr, refl, ⊎_elim, arith, AllocError}
+use Rattle.programs.proofs.chunkplan.Common.{OrMemory, of_refusal, then, Document, Task, Output, RunFault, Memory, Write}
 use Rattle.std.specs.declared.alloc.Global.{Global}
-use Rattle.zarrs_chunk_base.specs.Refusal.{OrMemory}
 use Rattle.zarrs_chunk_base.specs.declared.refusal.Refusal.{Refusal}
 use Rattle.zarrs_chunk_base.specs.declared.refusal.Refusal.TheVariants.{Refused, Memory as NoMemory}
-use Rattle.programs.specs.chunkplan.RunFault.{of_refusal}
-use Rattle.programs.specs.chunkplan.seen.Steps.{HasBegun, IsMade, StepLeaves}
-use Rattle.streams.specs.seen.Sent.{Output}
-use Rattle.programs.specs.declared.chunkplan.run_fault.RunFault.{RunFault}
-use Rattle.programs.specs.declared.chunkplan.run_fault.RunFault.TheVariants.{Memory, Write}
+use Rattle.programs.specs.chunkplan.Planned.{Array, source_in, text_by, text_of}
+use Rattle.programs.specs.chunkplan.seen.Steps.{HasBegun, IsMade, Leaves, StepLeaves}
 use Rattle.programs.proofs.chunkplan.Exits.{handed}
+use Rattle.programs.proofs.chunkplan.RunOutcomes.{Still, none_of_writing}
 
 module _ (P Q : List ℕ → Type 0) (F G : RunFault → Type 0) (step : (text : List ℕ) → P text → Q text)
     (blames : (fault : RunFault) → F fault → G fault)
@@ -50,6 +47,27 @@ module _ (P : List ℕ → Type 0) (F : RunFault → Type 0) where
       → (fault ≡ Memory) ⊎ G → (G → F fault) → StepLeaves P F r before before
   early r fault before same none which step =
       rw (handed r fault same) (stops_early fault before none (⊎_elim inl (λ is. inr (step is)) which))
+
+-- what is read first of what is sent then: it was read, or not
+module _ {X : Type 0} (first : Result X RunFault → Type 0) (next : X → Result (List ℕ) RunFault → Type 0) (before : Output) where
+  pub step_later : (x : X) → first (Ok x) → (after : Output) (r : Result (Unit {0}) RunFault) → Leaves (next x) r before after
+      → Leaves (then first next) r before after
+  step_later x is after r leaves =
+      step_follows (λ text. next x (Ok text)) (λ text. then first next (Ok text)) (λ fault. next x (Err fault)) (λ fault. then first next (Err fault))
+      (λ text made. (x, is, made)) (λ fault fails. inr (x, is, fails)) before after r leaves
+
+  pub step_first : Still (λ fault. first (Err fault)) → (r : Result (Unit {0}) RunFault) (fault : RunFault) → IsErrAnd r (λ other. other ≡ fault)
+      → (fault ≡ Memory) ⊎ first (Err fault) → Leaves (then first next) r before before
+  step_first never r fault same which =
+      step_follows (λ text. then first next (Ok text)) (λ text. then first next (Ok text)) (λ fault. first (Err fault))
+      (λ fault. then first next (Err fault)) (λ text made. made) (λ fault fails. inl fails) before before r
+      (early _ (λ fault. first (Err fault)) r fault before same (none_of_writing (λ fault. first (Err fault)) never) which (λ is. is))
+
+-- so of a document, by what it asks for
+pub by_task : (document : Document) (source : Array) (task : Task) → document.task ≡ task → source_in document (Ok source) → (before after : Output)
+    (r : Result (Unit {0}) RunFault) → Leaves (text_by document source task) r before after → Leaves (text_of document) r before after
+by_task document source task is made before after r leaves =
+    step_later (source_in document) (λ source. text_by document source document.task) before source made after r (rw is leaves)
 
 -- what a call's refusal tells is a fault, or memory ran out
 pub refused_or : {E : Type 0} (told : E → RunFault) (Is : E → Type 0) (F : RunFault → Type 0) → ((error : E) → Is error → F (told error))

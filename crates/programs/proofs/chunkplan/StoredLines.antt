@@ -1,33 +1,16 @@
 -- What a store hasn't of a plan, by the keys that were noted.
-use Rattle.std.proofs.Common.{◌≡◌, ◌↔◌, ◌<◌, ◌^◌, ◌++◌, ◌&&◌, ℕ, Bool, IsSomeAnd, IsTrue, List, [], Option, Some, None, ap, arith, length, refl}
-use Rattle.std.proofs.Common.{Result, slice_get, ⊎_elim}
-use Rattle.std.proofs.lemmas.Option.{slice_get_within}
-use Rattle.std.proofs.lemmas.Slice.Zip.{AllZip-long, AllZip-right}
-use Rattle.std.specs.List.{AllZip}
-use Rattle.zarrs_chunk_base.specs.Dimension.{Dimension}
-use Rattle.zarrs_chunk_base.specs.Grid.{Grid}
-use Rattle.zarrs_chunk_keys.specs.ChunkKey.{Encoding, IsKey}
-use Rattle.zarrs_chunk_keys.specs.declared.chunk_key_encoding.named.ChunkKeyEncoding.{ChunkKeyEncoding}
-use Rattle.zarrs_chunk_plan.specs.Counted.{counted}
-use Rattle.zarrs_chunk_plan.specs.Rechunking.{Group}
-use Rattle.zarrs_chunk_plan.specs.StoredChunks.{IsListed}
+use Rattle.std.proofs.Common.{Err}
+use Rattle.programs.proofs.chunkplan.Common.{◌≡◌, ◌↔◌, ◌<◌, ◌^◌, ◌++◌, ◌&&◌, ℕ, Bool, IsSomeAnd, IsTrue, List, [], Option, Some, None, ap, arith}
+use Rattle.programs.proofs.chunkplan.Common.{length, refl, Ok, Result, inr, slice_get, ⊎_elim, slice_get_within, AllZip-long, AllZip-right, AllZip}
+use Rattle.programs.proofs.chunkplan.Common.{Dimension, ChunkKeyEncoding, counted, Group, IsListed, Share, StoredChunks, Knows, is_stored}
+use Rattle.programs.proofs.chunkplan.Common.{counted_cases, ChunkGrid, then, Stored, Copying, Document, copy_to, lines_wanted, AsStoreKey}
+use Rattle.programs.proofs.chunkplan.Common.{IsMissingText, TellsThere, Target, RunFault, Output}
 use Rattle.zarrs_chunk_plan.specs.declared.copy.chunk_copies.Copies.{Copies}
-use Rattle.zarrs_chunk_plan.specs.declared.shares.share.Share.{Share}
-use Rattle.zarrs_chunk_plan.specs.declared.copy.stored_chunks.StoredChunks.{StoredChunks}
-use Rattle.zarrs_chunk_plan.specs.seen.StoredChunks.{Knows, is_stored}
-use Rattle.zarrs_chunk_plan.proofs.ByNumber.{counted_cases}
-use Rattle.zarrs_chunks.specs.declared.chunk_grid.named.ChunkGrid.{ChunkGrid}
-use Rattle.programs.specs.chunkplan.Document.{Document, lines_wanted}
-use Rattle.programs.specs.chunkplan.PlanFault.{IsFaultBeside, of_keys}
-use Rattle.programs.specs.chunkplan.Planned.{ArePlanned, IsPlannedBeside}
-use Rattle.programs.specs.chunkplan.Keys.{AsStoreKey, IsKeysFault, IsMissingText, TellsThere}
-use Rattle.programs.specs.declared.chunkplan.line.Order.TheVariants.{Target}
-use Rattle.programs.specs.declared.chunkplan.run_fault.RunFault.{RunFault}
-use Rattle.programs.specs.chunkplan.seen.Missing.{BesideKeys, HaveMarked, HaveNoted, is_left_out, share_unless_stored}
-use Rattle.programs.specs.chunkplan.seen.Opened.{CopiesToCome}
-use Rattle.programs.specs.chunkplan.seen.Steps.{ReadStepLeaves}
-use Rattle.streams.specs.seen.Sent.{Output}
-use Rattle.programs.proofs.chunkplan.KeySteps.{read_step_follows}
+use Rattle.programs.specs.chunkplan.Planned.{Array, beside_by, copy_beside, source_in, target_in, target_shape, text_beside}
+use Rattle.programs.specs.chunkplan.seen.Missing.{HaveMarked, HaveNoted, is_left_out, share_unless_stored}
+use Rattle.programs.specs.chunkplan.seen.Opened.{CopiesToCome, OfGroups}
+use Rattle.programs.specs.chunkplan.seen.Steps.{ReadLeaves}
+use Rattle.programs.proofs.chunkplan.KeySteps.{read_later, read_step_follows}
 
 both_true : (one other : Bool) → IsTrue (one && other) ↔ (IsTrue one × IsTrue other)
 both_true one other = grind arith
@@ -79,9 +62,9 @@ module _ (target : List Dimension) (IsKeyOf : List ℕ → List ℕ → Type 0) 
           λ (whole, there). both.1 (whole, listed.1 there),
         )
 
-  pub missing_text : (foreign : List ℕ) (noted : HaveNoted target IsKeyOf targets keys stored foreign) (share : Share)
+  pub still_missing : (foreign : List ℕ) (noted : HaveNoted target IsKeyOf targets keys stored foreign) (share : Share)
       → IsMissingText target IsKeyOf keys share groups (share_unless_stored Target (Some stored) share groups ++ foreign)
-  missing_text foreign noted share =
+  still_missing foreign noted share =
       let long = AllZip-long IsGroupOf targets groups are in
       record {
         few = omega (arith, few);
@@ -93,36 +76,23 @@ module _ (target : List Dimension) (IsKeyOf : List ℕ → List ℕ → Type 0) 
         text_is = ap (λ text. share_unless_stored Target (Some stored) share groups ++ text) noted.text_is;
       }
 
--- ---- what is sent of a walk, and why it stops
+-- ---- a copy of which a walk gives the groups, and what a document asks for of it
 
-module _ (walk : Copies ChunkGrid ChunkKeyEncoding ChunkGrid ChunkKeyEncoding) where
-  abbrev pub TextOf : (target : List Dimension) → (List ℕ → List ℕ → Type 0) → Share → List (List ℕ) → List ℕ → Type 0
-  TextOf target IsKeyOf share keys text = (groups : List Group) × CopiesToCome walk groups
-      × IsMissingText target IsKeyOf keys share groups text
+module _ (walk : Copies ChunkGrid ChunkKeyEncoding ChunkGrid ChunkKeyEncoding) (copy : Result (List Group) RunFault → Type 0)
+    (text : List Group → Result (List ℕ) RunFault → Type 0) where
+  pub of_copy : ((groups : List Group) → CopiesToCome walk groups → copy (Ok groups)) → (start read : Bool) (left : Option (List ℕ))
+      (before after : Output) (r : Result (Unit {0}) RunFault) → ReadLeaves (OfGroups walk text) r start read left before after
+      → ReadLeaves (then copy text) r start read left before after
+  of_copy planned =
+      read_step_follows (λ t. OfGroups walk text (Ok t)) (λ t. then copy text (Ok t)) (λ fault. OfGroups walk text (Err fault))
+      (λ fault. then copy text (Err fault)) (λ t (groups, moves, is). (groups, planned groups moves, is))
+      (λ fault (groups, moves, is). inr (groups, planned groups moves, is))
 
-  abbrev pub FaultOf : (bytes : List ℕ) → RunFault → Type 0
-  FaultOf bytes fault = (groups : List Group) × CopiesToCome walk groups × IsKeysFault groups bytes fault
-
-  -- so of the plan that a document asks for
-  pub planned_beside : (document : Document) (target : Grid) (encoding : Encoding) (share : Share) → document.wanted ≡ lines_wanted share
-      → ((groups : List Group) → CopiesToCome walk groups → ArePlanned document target encoding groups)
-      → (bytes : List ℕ) (start read : Bool) (left : Option (List ℕ)) (before after : Output) (r : Result (Unit {0}) RunFault)
-      → ReadStepLeaves (BesideKeys (TextOf target.dimensions (IsKey encoding) share) bytes) (FaultOf bytes) r start read left before after
-      → ReadStepLeaves (BesideKeys (IsPlannedBeside document) bytes) (IsFaultBeside document bytes) r start read left before after
-  planned_beside document target encoding share wanted planned bytes =
-      read_step_follows (BesideKeys (TextOf target.dimensions (IsKey encoding) share) bytes) (BesideKeys (IsPlannedBeside document) bytes)
-      (FaultOf bytes) (IsFaultBeside document bytes)
-      (λ text (keys, are, (groups, moves, missing)). (
-        keys,
-        are,
-        record {
-          target = target;
-          encoding = encoding;
-          groups = groups;
-          share = share;
-          planned = planned groups moves;
-          wanted = wanted;
-          is_text = missing;
-        },
-      ))
-      (λ fault (groups, moves, stops). of_keys target encoding groups (planned groups moves) stops)
+pub of_share : (document : Document) (source : Array) (stored : Stored) (copying : Copying) (share : Share) → source_in document (Ok source)
+    → document.task ≡ copy_to stored copying → document.wanted ≡ lines_wanted share → (bytes : List ℕ) (start read : Bool) (left : Option (List ℕ))
+    (before after : Output) (r : Result (Unit {0}) RunFault)
+    → ReadLeaves (then (target_in stored (target_shape copying document.shape)) (copy_beside copying share bytes source)) r start read left before after
+    → ReadLeaves (text_beside document bytes) r start read left before after
+of_share document source stored copying share made is_task is_share bytes start read left before after r leaves =
+    read_later (source_in document) (beside_by document bytes document.wanted document.task) start left before source made after read r
+    (rw (is_share, is_task) leaves)

@@ -1,11 +1,7 @@
 -- Tokens that are written one after another.
-use Rattle.std.proofs.Common.{◌≡◌, ◌∙◌, ℕ, List, [], ◌∷◌, ◌++◌, Ok, append_assoc, append-nil, ap, decimal, map, refl, sym}
-use Rattle.std.specs.declared.alloc.AllocError.{AllocError}
-use Rattle.json.specs.Token.{Token, end_array, number}
-use Rattle.json.specs.Tree.{items_tokens, json_tokens}
+use Rattle.programs.proofs.chunkplan.Common.{◌≡◌, ◌∙◌, ℕ, List, [], ◌∷◌, ◌++◌, Ok, append_assoc, append-nil, ap, decimal, map, refl, sym, AllocError}
+use Rattle.programs.proofs.chunkplan.Common.{Token, end_array, number, items_tokens, json_tokens, numbers_items, numbers_json, range_items, Adds}
 use Rattle.json.specs.Written.{Writes, Written}
-use Rattle.programs.specs.chunkplan.Line.{numbers_items, numbers_json, range_items}
-use Rattle.programs.specs.chunkplan.seen.Added.{Adds}
 
 pub nothing : (w : Written) → Adds w w []
 nothing w = record { before = refl; tokens = sym (append-nil w.tokens) }

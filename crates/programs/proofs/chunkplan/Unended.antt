@@ -1,9 +1,7 @@
 -- A line without its line feed.
-use Rattle.std.proofs.Common.{◌≡◌, ◌≢◌, ◌∙◌, ℕ, Bool, true, false, drop, eqb, false-eqb, get_or, List, [], ◌∷◌, ◌++◌, ap, arith, cond}
-use Rattle.std.proofs.Common.{eqb-true, length, length-append, refl, sym}
+use Rattle.programs.proofs.chunkplan.Common.{◌≡◌, ◌≢◌, ◌∙◌, ℕ, Bool, true, false, drop, eqb, false-eqb, get_or, List, [], ◌∷◌, ◌++◌, ap, arith, cond}
+use Rattle.programs.proofs.chunkplan.Common.{eqb-true, length, length-append, refl, sym, take_through, unended}
 use Rattle.std.proofs.BufReadLemmas.{take_through-nil}
-use Rattle.std.specs.Io.BufRead.{take_through}
-use Rattle.programs.specs.chunkplan.Keys.{unended}
 
 ended_at : (ended : Bool) (byte : ℕ) (bytes front : List ℕ) → (ended ≡ false → byte ≢ 10)
     → ((others : List ℕ) → take_through 10 bytes ≡ others ++ 10 ∷ [] → unended bytes ≡ others)

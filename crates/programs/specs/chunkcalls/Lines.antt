@@ -1,7 +1,7 @@
 -- Lines of bytes, and what answers them.
 use Rattle.std.specs.Prelude.{◌≡◌, ◌⊎◌, ℕ, ◌+◌, ◌<◌, ◌≤◌, ◌^◌, ◌==◌, ◌||◌, if◌then◌else◌, List, [], ◌∷◌, ◌++◌, codes, length, Option, Some}
 use Rattle.streams.specs.OneLine.{IsOneLine, line_feeds}
-use Rattle.zarrs_chunk_questions.specs.AnswerLine.{AsksForItems, IsAnswerLine}
+use Rattle.zarrs_chunk_questions.specs.AnswerLine.{AsksForItems, HasLongAnswer, IsAnswerLine}
 
 -- how many lines there are: each line feed ends one, and so does the last byte
 abbrev pub line_count : List ℕ → ℕ
@@ -22,10 +22,14 @@ HasAnswered input held holds =
 abbrev pub longest_line : ℕ
 longest_line = 2 ^ 24
 
--- What is written for a line: that it is too long; that the items that it asks for are; or its answer.
+-- an answer with items is refused only if its line has more bytes than these
+abbrev pub room : ℕ
+room = 2 ^ 18
+
+-- What is written for a line: that it is too long; that its answer is, which has the items that it asks for; or its answer.
 pub data IsReply (line reply : List ℕ) : Type 0 where
   long_line : longest_line < length line → reply ≡ codes "unreadable: line is longer than 16777216 bytes\n" → IsReply line reply
-  long_answer : length line ≤ longest_line → AsksForItems line
+  long_answer : length line ≤ longest_line → AsksForItems line → HasLongAnswer line room
       → reply ≡ codes "refused: answer is too long: ask for fewer `items`, and for the others by `first`\n" → IsReply line reply
   answered : length line ≤ longest_line → IsAnswerLine line reply → IsReply line reply
 

@@ -1,14 +1,8 @@
 -- The counts of a plan: an object, and the line of it; and the line of the counts of a rechunking in one stage, and of its two stages.
 -- Source: RFC 8259; the members, in the order of their names, are this program's own.
-use Rattle.std.specs.Prelude.{◌≡◌, ℕ, Bool, true, false, List, ◌++◌, Option, Some, None, Vec, codes}
-use Rattle.std.specs.declared.alloc.Global.{Global}
-use Rattle.json.specs.Print.{print}
-use Rattle.json.specs.Tree.{json_tokens}
-use Rattle.zarrs_chunk_keys.specs.Numeral.{IsNumeral}
-use Rattle.zarrs_chunk_plan.specs.Counts.{product}
-use Rattle.zarrs_chunk_plan.specs.declared.counts.of_plans.Counts.{Counts}
+use Rattle.programs.specs.chunkplan.Common.{◌≡◌, ℕ, Bool, true, false, List, ◌++◌, Option, Some, None, Vec, codes, Global, print, json_tokens}
+use Rattle.programs.specs.chunkplan.Common.{IsNumeral, product, Counts, StagesCounts}
 use Rattle.programs.specs.chunkplan.Line.{numbers_json}
-use Rattle.programs.specs.declared.chunkplan.counting.StagesCounts.{StagesCounts}
 
 -- a count as text: the numeral of the product of its factors, and `null` where it isn't counted
 abbrev pub IsCount : Option (Vec ℕ Global) → List ℕ → Type 0
@@ -36,7 +30,7 @@ IsCountsLine counts line = (object : List ℕ) × IsCountsObject counts object �
 
 -- ---- in one stage, and in two
 
--- the shape of the chunks of the array between, and `null` where there is none
+-- the shape of the chunks of the intermediate array, and `null` if no shape fits
 abbrev pub between_text : Option StagesCounts → List ℕ
 between_text (Some stages) = print (json_tokens (numbers_json stages.shape.items))
 between_text None = codes "null"

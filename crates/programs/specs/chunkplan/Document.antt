@@ -3,42 +3,28 @@
 -- `order`, or `max_elements` and `stage`, if they are wanted; for the copy of a region, `target` and `subset`, and `at` if it is wanted. `share` or
 -- `counts` says what is wanted of the plan, if not all lines; beside a target, `keys` that keys of its store stand behind the document. For a resize
 -- it has `resize`, and `keep` if it is wanted, and none of these. What else an array's `zarr.json` has may stand in it and in the target.
-use Rattle.std.specs.Prelude.{◌≡◌, ◌⊎◌, ◌==◌, ◌^◌, ◌≤◌, ℕ, Bool, true, false, cond, IsSome, IsTrue, List, Option, Some, None, Result, Ok, Err}
-use Rattle.std.specs.Prelude.{bytes_eq, codes, nat_lt, option_and_then, option_map}
+use Rattle.programs.specs.chunkplan.Common.{◌≡◌, ◌⊎◌, ◌==◌, ◌^◌, ◌≤◌, ℕ, Bool, true, false, cond, IsSome, IsTrue, List, Option, Some, None, Result}
+use Rattle.programs.specs.chunkplan.Common.{Ok, Err, bytes_eq, codes, nat_lt, option_and_then, option_map, Data, as_bool, as_object, as_str, get, Box}
+use Rattle.programs.specs.chunkplan.Common.{IsBox, edge_of, list_of, pair_of, size_of, MemoryOrder, Share, order_in, gives, optional, then, told}
+use Rattle.programs.specs.chunkplan.Common.{Stored, stored_of, DocumentFault, UnknownMember, Order, Source, Target, RunFault, Stage, First, Second}
 use Rattle.std.specs.Int.NonZero.{non_zero_u64_get}
-use Rattle.serde_json.specs.Data.{Data}
-use Rattle.serde_json.specs.Find.{as_bool, as_object, as_str, get}
-use Rattle.zarrs_chunk_base.specs.ArraySubset.{Box, IsBox}
 use Rattle.zarrs_chunk_base.specs.ArraySubsetError.{IsBoxFault}
 use Rattle.zarrs_chunk_base.specs.First.{IsFirst}
-use Rattle.zarrs_chunk_base.specs.Json.{edge_of, list_of, pair_of, size_of}
-use Rattle.zarrs_chunk_plan.specs.declared.bytes.ranges.MemoryOrder.{MemoryOrder}
 use Rattle.zarrs_chunk_plan.specs.declared.bytes.ranges.MemoryOrder.TheVariants.{C}
-use Rattle.zarrs_chunk_plan.specs.declared.shares.share.Share.{Share}
-use Rattle.zarrs_chunk_questions.specs.Order.{order_in}
 use Rattle.documents.specs.Document.{in_form_or, members_in, object_in, optional_in, shape_in, stored_in}
-use Rattle.documents.specs.Reading.{gives, optional, then, told}
-use Rattle.documents.specs.Stored.{Stored, stored_of}
-use Rattle.documents.specs.declared.document_fault.DocumentFault.{DocumentFault}
 use Rattle.documents.specs.declared.document_fault.DocumentFault.TheVariants.{WrongValue}
 use Rattle.programs.specs.chunkplan.Known.{Agree, Differ, HasOnly, IsFirstUnknown, known_members, zarr_json_members}
 use Rattle.programs.specs.chunkplan.MemberRules.{Fit, is_broken, rule_of, rules}
 use Rattle.programs.specs.chunkplan.RunFault.{of_document}
-use Rattle.programs.specs.declared.chunkplan.known_members.UnknownMember.{UnknownMember}
-use Rattle.programs.specs.declared.chunkplan.line.Order.{Order}
-use Rattle.programs.specs.declared.chunkplan.line.Order.TheVariants.{Source, Target}
 use Rattle.programs.specs.declared.chunkplan.ranges.RangesAsked.{RangesAsked}
-use Rattle.programs.specs.declared.chunkplan.run_fault.RunFault.{RunFault}
-use Rattle.programs.specs.declared.chunkplan.run_fault.RunFault.TheVariants as fault
-use Rattle.programs.specs.declared.chunkplan.document.Stage.{Stage}
-use Rattle.programs.specs.declared.chunkplan.document.Stage.TheVariants.{First, Second}
 use Rattle.programs.specs.declared.chunkplan.document.Document.{Document as DocumentValue}
 use Rattle.programs.specs.declared.chunkplan.document.Task.{Task as TaskValue}
-use Rattle.programs.specs.declared.chunkplan.document.Task.TheVariants.{Copy as CopyValue, Read as ReadValue, Rechunk as RechunkValue}
-use Rattle.programs.specs.declared.chunkplan.document.Task.TheVariants.{RechunkBySource as RechunkBySourceValue, Resize as ResizeValue}
-use Rattle.programs.specs.declared.chunkplan.document.Task.TheVariants.{RechunkWithin as RechunkWithinValue}
+use Rattle.programs.specs.declared.chunkplan.document.Copying.{Copying as CopyingValue}
 use Rattle.programs.specs.declared.chunkplan.document.Wanted.{Wanted as WantedValue}
 use Rattle.programs.specs.declared.chunkplan.document.Wanted.TheVariants.{Counts as CountsValue, Lines as LinesValue}
+use Rattle.programs.specs.declared.chunkplan.run_fault.RunFault.TheVariants as fault
+use Rattle.programs.specs.declared.chunkplan.document.Task.TheVariants as task
+use Rattle.programs.specs.declared.chunkplan.document.Copying.TheVariants as copying
 
 -- how byte ranges are wanted in lines: of how many bytes an element is, in which order a chunk's elements are stored, and up to how many are listed
 pub record RangesWanted : Type 0 where
@@ -46,16 +32,20 @@ pub record RangesWanted : Type 0 where
   pub order : MemoryOrder
   pub most : ℕ
 
--- What is asked for: a read of a box of elements, or of all, as it is or clipped to the array, and whether byte ranges are wanted; a rechunking into
--- chunks of a box, or into all; one in the order of the source, a line for each of its chunks; one of which a worker holds at most so many elements,
--- or one of its two stages; the copy of a region, a box of elements, to an array of a shape that is stored in some way, to begin there at an index,
--- where one is given; or a resize of the array to another shape, and whether the chunks are wanted too that stay as they are stored.
+-- What is copied to another array. All goes into the chunks of a box, or into all chunks. Or all goes in the order of the source, a line for each of
+-- its chunks. Or all goes while a worker holds at most `most` elements: in one stage, or one of two stages is asked for. Or a region, a box of
+-- elements, goes to an array of this shape, and perhaps to an index there.
+pub data Copying : Type 0 where
+  into_chunks : Option Box → Copying
+  by_source : Copying
+  within_bound : (most : ℕ) → Option Stage → Copying
+  to_region : (shape : List ℕ) → (region : Box) → (at : Option (List ℕ)) → Copying
+
+-- What is asked for. It is a read of a box of elements or of all, as it is or clipped to the array, and perhaps with byte ranges. Or it is a copy to an
+-- array that is stored in some way. Or it is a resize of the array to another shape, with or without the chunks that stay as they are stored.
 pub data Task : Type 0 where
   read_of : Option Box → (clip : Bool) → Option RangesWanted → Task
-  rechunk_to : Stored → Option Box → Task
-  rechunk_by_source : Stored → Task
-  rechunk_within : Stored → (most : ℕ) → Option Stage → Task
-  copy_to : (shape : List ℕ) → Stored → (region : Box) → (at : Option (List ℕ)) → Task
+  copy_to : Stored → Copying → Task
   resize_to : (shape : List ℕ) → (keep : Bool) → Task
 
 -- what is wanted of the plan: the lines of a share, or its counts
@@ -75,13 +65,16 @@ pub record Document : Type 0 where
 abbrev pub ranges_asked_of : RangesAsked → RangesWanted
 ranges_asked_of asked = record { item = non_zero_u64_get asked.item_size; order = asked.order; most = asked.most }
 
+abbrev pub copying_of : CopyingValue → Copying
+copying_of (copying.Chunks chunks) = into_chunks chunks
+copying_of copying.BySource = by_source
+copying_of (copying.Within most stage) = within_bound most stage
+copying_of (copying.Region shape region at) = to_region shape.items region (option_map (λ v. v.items) at)
+
 abbrev pub task_of : TaskValue → Task
-task_of (ReadValue subset clip ranges) = read_of subset clip (option_map ranges_asked_of ranges)
-task_of (RechunkValue target chunks) = rechunk_to (stored_of target) chunks
-task_of (RechunkBySourceValue target) = rechunk_by_source (stored_of target)
-task_of (RechunkWithinValue target most stage) = rechunk_within (stored_of target) most stage
-task_of (CopyValue shape target region at) = copy_to shape.items (stored_of target) region (option_map (λ v. v.items) at)
-task_of (ResizeValue shape keep) = resize_to shape.items keep
+task_of (task.Read subset clip ranges) = read_of subset clip (option_map ranges_asked_of ranges)
+task_of (task.Copy target copied) = copy_to (stored_of target) (copying_of copied)
+task_of (task.Resize shape keep) = resize_to shape.items keep
 
 abbrev pub wanted_of : WantedValue → Wanted
 wanted_of (LinesValue share) = lines_wanted share
@@ -212,13 +205,13 @@ target_stored_in = stored_in (codes "target.chunk_grid") (codes "target.chunk_ke
 
 -- a rechunking in an order: by the source, or in that of the target, and then into chunks of a box or into all
 abbrev pub rechunking_by : Data → Stored → Order → Result Task RunFault → Type 0
-rechunking_by d stored Target = then (box_in (codes "chunks") d) (λ chunks. gives (rechunk_to stored chunks))
-rechunking_by d stored Source = gives (rechunk_by_source stored)
+rechunking_by d stored Target = then (box_in (codes "chunks") d) (λ chunks. gives (copy_to stored (into_chunks chunks)))
+rechunking_by d stored Source = gives (copy_to stored by_source)
 
 -- a rechunking of which a worker holds at most this number of elements, or one in an order
 abbrev pub rechunking_within : Data → Stored → (most : Option ℕ) → Result Task RunFault → Type 0
 rechunking_within d stored (Some most) =
-    then (told of_document (optional_in stage_of (codes "stage") d)) (λ stage. gives (rechunk_within stored most stage))
+    then (told of_document (optional_in stage_of (codes "stage") d)) (λ stage. gives (copy_to stored (within_bound most stage)))
 rechunking_within d stored None = then (told of_document (line_order_in d)) (rechunking_by d stored)
 
 -- a rechunking to this target
@@ -236,7 +229,7 @@ region_in d target subset =
     then (told of_document (target_stored_in target)) (λ stored.
     then (box_of (codes "subset") subset) (λ region.
     then (told of_document (optional_in (list_of size_of) (codes "at") d)) (λ at.
-    gives (copy_to shape stored region at))))))
+    gives (copy_to stored (to_region shape region at)))))))
 
 -- What is copied: without a target, what is read; with one, which is an object, a region, where `subset` is there, or else a rechunking.
 abbrev pub copying_in : Data → (target : Option Data) → Result Task RunFault → Type 0
@@ -275,7 +268,11 @@ abbrev pub document_in : (input : List ℕ) → Result Document RunFault → Typ
 document_in input = then (told of_document (object_in input)) form_in
 
 -- the lines of a rechunking in the order of the target, or of the copy of a region, are asked for
+abbrev pub HasGroups : Copying → Type 0
+HasGroups (into_chunks chunks) = Unit {0}
+HasGroups (to_region shape region at) = Unit {0}
+HasGroups _ = ⊥
+
 abbrev pub AsksForLinesOfCopy : Document → Type 0
 AsksForLinesOfCopy document = ((share : Share) × (document.wanted ≡ lines_wanted share))
-    × (((stored : Stored) × (chunks : Option Box) × (document.task ≡ rechunk_to stored chunks))
-    ⊎ ((shape : List ℕ) × (stored : Stored) × (region : Box) × (at : Option (List ℕ)) × (document.task ≡ copy_to shape stored region at)))
+    × ((stored : Stored) × (copied : Copying) × (document.task ≡ copy_to stored copied) × HasGroups copied)

@@ -1,25 +1,13 @@
 -- Keys behind a document, a line each, and what they leave of a plan.
 -- Source: the form of the input and of the lines is this program's own.
-use Rattle.std.specs.Prelude.{◌≡◌, ◌≢◌, ◌↔◌, ◌⊎◌, ◌≤◌, ◌<◌, ◌^◌, ◌==◌, ◌&&◌, ◌+◌, ℕ, suc, pred, take, Bool, true, IsTrue, if◌then◌else◌, List, [], ◌∷◌, ◌++◌, Contains}
-use Rattle.std.specs.Prelude.{length, codes, Some, Ok}
-use Rattle.std.specs.List.{slice_get}
+use Rattle.programs.specs.chunkplan.Common.{◌≡◌, ◌≢◌, ◌↔◌, ◌⊎◌, ◌≤◌, ◌<◌, ◌^◌, ◌==◌, ◌&&◌, ◌+◌, ℕ, suc, pred, take, Bool, true, IsTrue, if◌then◌else◌}
+use Rattle.programs.specs.chunkplan.Common.{List, [], ◌∷◌, ◌++◌, Contains, length, codes, Some, Ok, slice_get, IsUtf8, Json, string, object}
+use Rattle.programs.specs.chunkplan.Common.{no_members, member, Data, Dimension, IsJsonOf, EndsInSlash, counted, Group, before_share, share_of, Share}
+use Rattle.programs.specs.chunkplan.Common.{Target, RunFault, KeyNotText, TooManyForKeys}
 use Rattle.std.specs.Io.BufRead.{drop_through, take_through}
-use Rattle.std.specs.Str.{IsUtf8}
-use Rattle.json.specs.Json.{Json, string, object, no_members, member}
-use Rattle.serde_json.specs.Data.{Data}
-use Rattle.zarrs_chunk_base.specs.Dimension.{Dimension}
-use Rattle.zarrs_chunk_base.specs.Json.{IsJsonOf}
-use Rattle.zarrs_chunk_base.specs.StoreKey.{EndsInSlash}
-use Rattle.zarrs_chunk_plan.specs.Counted.{counted}
-use Rattle.zarrs_chunk_plan.specs.Rechunking.{Group}
-use Rattle.zarrs_chunk_plan.specs.Shares.{before_share, share_of}
 use Rattle.zarrs_chunk_plan.specs.StoredChunks.{IsListed, IsOfArray}
-use Rattle.zarrs_chunk_plan.specs.declared.shares.share.Share.{Share}
 use Rattle.programs.specs.chunkplan.Document.{flag_in}
 use Rattle.programs.specs.chunkplan.Line.{group_line, line_of, lines_from}
-use Rattle.programs.specs.declared.chunkplan.line.Order.TheVariants.{Target}
-use Rattle.programs.specs.declared.chunkplan.run_fault.RunFault.{RunFault}
-use Rattle.programs.specs.declared.chunkplan.run_fault.RunFault.TheVariants.{KeyNotText, TooManyForKeys}
 
 -- ---- the input
 

@@ -1,28 +1,17 @@
 -- The lines of a plan: compact JSON, an object a line. Characters that break a line for some reader are escaped.
 -- Source: RFC 8259, and JSON Lines; the members are this program's own.
-use Rattle.std.specs.Prelude.{ℕ, suc, List, [], ◌∷◌, ◌++◌, length, codes, cond, decimal, nat_le, Option, Some, None}
-use Rattle.json.specs.Json.{Json, null, boolean, number, string, array, object, Items, no_items, item, Members, no_members, member}
-use Rattle.json.specs.Print.{print}
-use Rattle.json.specs.Tree.{json_tokens}
-use Rattle.zarrs_chunk_base.specs.ArraySubset.{Box}
+use Rattle.programs.specs.chunkplan.Common.{ℕ, suc, List, [], ◌∷◌, ◌++◌, length, codes, cond, decimal, nat_le, Option, Some, None, Json, null, number}
+use Rattle.programs.specs.chunkplan.Common.{string, array, object, Items, no_items, item, Members, no_members, member, print, json_tokens, Box}
+use Rattle.programs.specs.chunkplan.Common.{counted, Group, shifted, before_share, share_of, MemoryOrder, Part, ChunkChange, Share, order_text, Order}
+use Rattle.programs.specs.chunkplan.Common.{Source, Target}
+use Rattle.json.specs.Json.{boolean}
 use Rattle.zarrs_chunk_plan.specs.Bytes.{begins}
-use Rattle.zarrs_chunk_plan.specs.Counted.{counted}
-use Rattle.zarrs_chunk_plan.specs.Rechunking.{Group}
-use Rattle.zarrs_chunk_plan.specs.Region.{shifted}
-use Rattle.zarrs_chunk_plan.specs.Shares.{before_share, share_of}
 use Rattle.zarrs_chunk_plan.specs.Strided.{Strided, ranges_of}
-use Rattle.zarrs_chunk_plan.specs.declared.bytes.ranges.MemoryOrder.{MemoryOrder}
-use Rattle.zarrs_chunk_parts.specs.declared.part.Part.{Part}
 use Rattle.zarrs_chunk_plan.specs.declared.resize.plan.Change.{Change}
 use Rattle.zarrs_chunk_plan.specs.declared.resize.plan.Change.TheVariants.{Delete, Keep, New, Rewrite}
-use Rattle.zarrs_chunk_plan.specs.declared.resize.plan.ChunkChange.{ChunkChange}
 use Rattle.zarrs_chunk_plan.specs.declared.resize.plan.Held.{Held}
-use Rattle.zarrs_chunk_plan.specs.declared.shares.share.Share.{Share}
-use Rattle.zarrs_chunk_questions.specs.Order.{order_text}
 use Rattle.programs.specs.chunkplan.Document.{RangesWanted}
 use Rattle.streams.specs.OneLine.{line_of as one_line}
-use Rattle.programs.specs.declared.chunkplan.line.Order.{Order}
-use Rattle.programs.specs.declared.chunkplan.line.Order.TheVariants.{Source, Target}
 
 -- a list of numbers
 abbrev pub numbers_items : List ℕ → Items

@@ -1,9 +1,6 @@
 -- Which members of a document go together.
 -- Source: this program's own.
-use Rattle.std.specs.Prelude.{ℕ, Bool, not, ◌&&◌, IsFalse, List, [], ◌∷◌, ◌++◌, codes, is_some, map}
-use Rattle.std.specs.List.{AllByRecursion}
-use Rattle.serde_json.specs.Data.{Data}
-use Rattle.serde_json.specs.Find.{get}
+use Rattle.programs.specs.chunkplan.Common.{ℕ, Bool, not, ◌&&◌, IsFalse, List, [], ◌∷◌, ◌++◌, codes, is_some, map, AllByRecursion, Data, get}
 use Rattle.programs.specs.declared.chunkplan.member_rules.MemberRule.{MemberRule}
 use Rattle.programs.specs.declared.chunkplan.member_rules.MemberRule.TheVariants.{Excludes, Needs}
 

@@ -1,39 +1,55 @@
--- What the program writes for a document.
-use Rattle.std.specs.Prelude.{◌≡◌, ◌↔◌, ℕ, Bool, true, false, IsTrue, List, [], length, MatchOption, Option, None, Some, Ok, replicate, unwrap_or}
-use Rattle.zarrs_chunk_base.specs.ArraySubset.{Box, IsBox, IsEmptyBox, IsInside}
-use Rattle.zarrs_chunk_base.specs.Dimension.{Dimension, array_sizes}
+-- What the program writes for a document, or why it writes nothing.
+use Rattle.programs.specs.chunkplan.Common.{◌≡◌, ◌≢◌, ◌↔◌, ◌⊎◌, ℕ, Bool, true, false, IsTrue, List, length, MatchOption, Option, None, Some}
+use Rattle.programs.specs.chunkplan.Common.{Result, Ok, Err, replicate, unwrap_or, Box, IsBox, IsEmptyBox, IsInside, lasts, Dimension, array_sizes}
+use Rattle.programs.specs.chunkplan.Common.{IsKey, default_keys, IsGrid, IsGridFault, grid_kind, regular, AreCopyCounts, AreReadCounts, AreTargets}
+use Rattle.programs.specs.chunkplan.Common.{Group, IsRechunking, all_chunks_box, array_box, AnyChunk, IsRegionCopy, IsRegionFault, moved, FindsShape}
+use Rattle.programs.specs.chunkplan.Common.{HoldAtMost, IsBoundFault, IsLargest, IsStagesFault, RegionError, Counts, Part, ChunkChange, Share}
+use Rattle.programs.specs.chunkplan.Common.{made_of, then, told, Stored, array_of, Order, Source, Target, Stage, First, Second, StagesCounts}
+use Rattle.programs.specs.chunkplan.Common.{RunFault, Copies, KeysOfLongDocument, NoShape, NotInOneStage, NotJson, ResizedGrid, Stages}
+use Rattle.programs.specs.chunkplan.Common.{SubsetDimensionality, Uncovered}
 use Rattle.zarrs_chunk_base.specs.Grid.{Grid}
+use Rattle.zarrs_chunk_base.specs.Refusal.{TellsLengths}
 use Rattle.zarrs_chunk_base.specs.declared.chunk_key_separator.ChunkKeySeparator.TheVariants.{Slash}
-use Rattle.zarrs_chunk_keys.specs.ChunkKey.{Encoding, IsKey, default_keys}
-use Rattle.zarrs_chunks.specs.GridKinds.{IsGrid, grid_kind, regular}
+use Rattle.zarrs_chunk_keys.specs.ChunkKey.{Encoding}
+use Rattle.zarrs_chunks.specs.Subsets.{HasNoHome}
 use Rattle.zarrs_chunk_plan.specs.Clip.{IsClipped}
-use Rattle.zarrs_chunk_plan.specs.Counts.{AreCopyCounts, AreReadCounts}
 use Rattle.zarrs_chunk_parts.specs.Plan.{IsPlan}
-use Rattle.zarrs_chunk_plan.specs.Rechunking.{AreTargets, Group, IsRechunking, all_chunks_box, array_box}
-use Rattle.zarrs_chunk_plan.specs.Region.{AnyChunk, IsRegionCopy, moved}
 use Rattle.zarrs_chunk_plan.specs.Resize.{IsResizePlan}
-use Rattle.zarrs_chunk_plan.specs.Stages.{FindsShape, HoldAtMost, IsLargest}
-use Rattle.zarrs_chunk_plan.specs.declared.counts.of_plans.Counts.{Counts}
-use Rattle.zarrs_chunk_parts.specs.declared.part.Part.{Part}
-use Rattle.zarrs_chunk_plan.specs.declared.resize.plan.ChunkChange.{ChunkChange}
-use Rattle.zarrs_chunk_plan.specs.declared.shares.share.Share.{Share}
-use Rattle.documents.specs.Stored.{IsStored, Stored}
+unfoldable use Rattle.zarrs_chunk_plan.specs.Stages.{bound_for}
+use Rattle.zarrs_chunk_plan.specs.declared.copy.copies_error.CopiesError.TheVariants.{Chunks}
 use Rattle.programs.specs.chunkplan.CountsLine.{IsCountsLine, IsStagesLine}
-use Rattle.programs.specs.chunkplan.Document.{Document, document_in, RangesWanted, Wanted, copy_to, counts_wanted, lines_wanted, read_of}
-use Rattle.programs.specs.chunkplan.Document.{rechunk_by_source, rechunk_to, rechunk_within, resize_to}
-use Rattle.programs.specs.chunkplan.Keys.{AreKeys, HasKeysBehind, IsMissingText, behind_first, first_line}
+use Rattle.programs.specs.chunkplan.Document.{Copying, Document, document_in, RangesWanted, Task, Wanted, by_source, copy_to, counts_wanted}
+use Rattle.programs.specs.chunkplan.Document.{into_chunks, lines_wanted, read_of, resize_to, to_region, within_bound}
+use Rattle.programs.specs.chunkplan.Keys.{AreKeys, HasKeysBehind, IsKeysFault, IsMissingText, behind_first, closed_lines, first_line}
 use Rattle.programs.specs.chunkplan.Line.{read_lines, rechunking_lines, resize_lines}
-use Rattle.programs.specs.declared.chunkplan.line.Order.{Order}
-use Rattle.programs.specs.declared.chunkplan.line.Order.TheVariants.{Source, Target}
-use Rattle.programs.specs.declared.chunkplan.document.Stage.{Stage}
-use Rattle.programs.specs.declared.chunkplan.document.Stage.TheVariants.{First, Second}
-use Rattle.programs.specs.declared.chunkplan.counting.StagesCounts.{StagesCounts}
+use Rattle.programs.specs.chunkplan.RunFault.{of_create, of_region, of_target}
 
--- the plan of reading a box of elements, which has as many dimensions as the grid; an empty box has no parts
+-- an array as it is stored: its grid and its encoding
+abbrev pub Array : Type 0
+Array = Grid × Encoding
+
+-- the array of a document, or why it can't be made; and a target of a shape
+abbrev pub source_in : Document → Result Array RunFault → Type 0
+source_in document = told of_create (array_of document.stored document.shape)
+
+abbrev pub target_in : Stored → (shape : List ℕ) → Result Array RunFault → Type 0
+target_in stored shape = told of_target (array_of stored shape)
+
+-- ---- a read
+
+-- the plan of reading a box of elements, which has as many dimensions as the grid
 pub record IsReadPlan (ds : List Dimension) (IsKeyOf : List ℕ → List ℕ → Type 0) (subset : Box) (parts : List Part) : Type 0 where
   pub lengths : length subset.start ≡ length ds
-  pub some : (¬ IsEmptyBox subset) → IsPlan ds IsKeyOf subset parts
-  pub none : IsEmptyBox subset → parts ≡ []
+  pub plan : IsPlan ds IsKeyOf subset parts
+
+-- The fault says why there is no plan of reading the box. The box has another number of dimensions. Or it isn't clipped, and its first or its last
+-- element lies in no chunk.
+abbrev pub IsReadFault : (clip : Bool) → List Dimension → Box → RunFault → Type 0
+IsReadFault clip ds subset (SubsetDimensionality e) = (length subset.start ≢ length ds) × TellsLengths (length subset.start) (length ds) e
+IsReadFault clip ds subset Uncovered =
+    (clip ≡ false) × (length subset.start ≡ length ds) × (¬ IsEmptyBox subset)
+    × (HasNoHome ds subset.start ⊎ HasNoHome ds (lasts subset.start subset.shape))
+IsReadFault clip ds subset _ = ⊥
 
 -- the box that is read for a box: it itself, or what it has of the array, where it is clipped
 abbrev pub IsAsked : (clip : Bool) → List Dimension → Box → Box → Type 0
@@ -45,7 +61,20 @@ abbrev pub IsReadText : Wanted → Option RangesWanted → Box → List Part →
 IsReadText (lines_wanted share) ranges asked parts text = text ≡ read_lines ranges share parts
 IsReadText counts_wanted ranges asked parts text = (counts : Counts) × AreReadCounts asked parts counts × IsCountsLine counts text
 
--- and of that of a copy into chosen chunks
+-- so of a box as it is, or why there is no plan of it; and of one that may be clipped
+abbrev pub asked_text : Wanted → Option RangesWanted → Array → Box → Result (List ℕ) RunFault → Type 0
+asked_text wanted ranges array asked (Ok text) = (parts : List Part) × IsReadPlan array.0.dimensions (IsKey array.1) asked parts
+    × IsReadText wanted ranges asked parts text
+asked_text wanted ranges array asked (Err fault) = IsReadFault false array.0.dimensions asked fault
+
+abbrev pub read_text : Wanted → (clip : Bool) → Option RangesWanted → Array → Box → Result (List ℕ) RunFault → Type 0
+read_text wanted clip ranges array subset (Ok text) =
+    (asked : Box) × IsAsked clip array.0.dimensions subset asked × asked_text wanted ranges array asked (Ok text)
+read_text wanted clip ranges array subset (Err fault) = IsReadFault clip array.0.dimensions subset fault
+
+-- ---- a copy
+
+-- what is written of the plan of a copy into chosen chunks
 abbrev pub IsCopyText : Order → Wanted → (source target : List Dimension) → (region : Box) → (at : List ℕ) → (Chosen : List ℕ → Type 0) → List Group
     → List ℕ → Type 0
 IsCopyText order (lines_wanted share) source target region at Chosen groups text = text ≡ rechunking_lines order share groups
@@ -58,148 +87,218 @@ abbrev pub IsRechunkingText : Order → Wanted → (source target : List Dimensi
 IsRechunkingText order wanted source target chunks =
     IsCopyText order wanted source target (array_box target) (array_box target).start (IsInside chunks)
 
--- a worker who makes any chunk of the target holds at most so many elements, whichever chunk of the source it reads
+-- the fault says that the box of chunks has another number of dimensions than the target
+abbrev pub IsChunksFault : List Dimension → Box → RunFault → Type 0
+IsChunksFault ds chunks (Copies (Chunks e)) = (length chunks.start ≢ length ds) × TellsLengths (length chunks.start) (length ds) e
+IsChunksFault ds chunks _ = ⊥
+
+-- the rechunking into the chunks of a box
+abbrev pub rechunking_of : (source : Array) → (chunks : Box) → (target : Array) → Result (List Group) RunFault → Type 0
+rechunking_of source chunks target (Ok groups) =
+    IsRechunking source.0.dimensions (IsKey source.1) target.0.dimensions (IsKey target.1) chunks groups
+    × (length chunks.start ≡ length target.0.dimensions)
+rechunking_of source chunks target (Err fault) = IsChunksFault target.0.dimensions chunks fault
+
+-- the index in the target's array at which a region begins: 0 in each dimension, if no index is given
+abbrev pub begins_at : Box → Option (List ℕ) → List ℕ
+begins_at region at = unwrap_or at (replicate (length region.start) 0)
+
+-- the copy of a region, to begin in the target's array at an index
+abbrev pub region_of : (source : Array) → (region : Box) → (at : List ℕ) → (target : Array) → Result (List Group) RunFault → Type 0
+region_of source region at target (Ok groups) =
+    IsRegionCopy source.0.dimensions (IsKey source.1) target.0.dimensions (IsKey target.1) region at groups
+region_of source region at target (Err fault) =
+    (first : RegionError) × IsRegionFault (array_sizes source.0.dimensions) (array_sizes target.0.dimensions) region at first
+    × (fault ≡ of_region first)
+
+-- what is written of each
+abbrev pub rechunking_text : Order → Wanted → (source : Array) → (chunks : Box) → (target : Array) → Result (List ℕ) RunFault → Type 0
+rechunking_text order wanted source chunks target =
+    made_of (rechunking_of source chunks target) (IsRechunkingText order wanted source.0.dimensions target.0.dimensions chunks)
+
+abbrev pub region_text : Wanted → (source : Array) → (region : Box) → (at : List ℕ) → (target : Array) → Result (List ℕ) RunFault → Type 0
+region_text wanted source region at target =
+    made_of (region_of source region at target) (IsCopyText Target wanted source.0.dimensions target.0.dimensions region at AnyChunk)
+
+-- ---- a rechunking of which a worker holds at most so many elements
+
+-- a worker who makes any chunk of the target holds at most so many elements, whichever chunk of the source it reads; or may hold more
 abbrev pub FitsOneStage : (source target : List Dimension) → (most : ℕ) → Type 0
-FitsOneStage source target most = (largest other : List ℕ) × IsLargest source largest × IsLargest target other × HoldAtMost most largest other
+FitsOneStage source target most = (largest other : List ℕ) × IsLargest source largest × IsLargest target other
+    × HoldAtMost (bound_for (array_sizes source) most) largest other
 
--- one who makes some chunk may hold more
 abbrev pub HoldsMore : (source target : List Dimension) → (most : ℕ) → Type 0
-HoldsMore source target most = (largest other : List ℕ) × IsLargest source largest × IsLargest target other × (¬ HoldAtMost most largest other)
+HoldsMore source target most = (largest other : List ℕ) × IsLargest source largest × IsLargest target other
+    × (¬ HoldAtMost (bound_for (array_sizes source) most) largest other)
 
--- the grid of the array between: the `regular` one of the array's sizes and of chunks of the shape that is found
-abbrev pub IsBetween : (source target : List Dimension) → (most : ℕ) → (between : Grid) → Type 0
-IsBetween source target most between =
+-- one stage fits; or not, or there is too much to go through to tell
+abbrev pub one_stage_in : (source target : List Dimension) → (most : ℕ) → Result (Unit {0}) RunFault → Type 0
+one_stage_in source target most (Ok _) = FitsOneStage source target most
+one_stage_in source target most (Err NotInOneStage) = HoldsMore source target most
+one_stage_in source target most (Err (Stages error)) = IsBoundFault source target error
+one_stage_in source target most (Err _) = ⊥
+
+-- The grid of the intermediate array is the `regular` one of the array's sizes and of chunks of the shape that is found. Or no shape fits, or there is
+-- too much to go through to find one.
+abbrev pub between_in : (source target : List Dimension) → (most : ℕ) → Result Grid RunFault → Type 0
+between_in source target most (Ok between) =
     (shape : List ℕ) × FindsShape source target most (Some shape) × (grid_kind regular).makes between (array_sizes source) shape
+between_in source target most (Err NoShape) = FindsShape source target most None
+between_in source target most (Err (Stages error)) = IsStagesFault source target error
+between_in source target most (Err _) = ⊥
 
 -- its keys
 abbrev pub between_keys : Encoding
 between_keys = default_keys Slash
 
-module _ (source : List Dimension) (IsSourceKey : List ℕ → List ℕ → Type 0) (target : List Dimension) (IsTargetKey : List ℕ → List ℕ → Type 0) where
-  -- what is written of the rechunking into all chunks of the target
-  abbrev pub IsWholeText : Wanted → List ℕ → Type 0
-  IsWholeText wanted text = (groups : List Group) × IsRechunking source IsSourceKey target IsTargetKey (all_chunks_box target) groups
-      × IsRechunkingText Target wanted source target (all_chunks_box target) groups text
+-- what is written of the rechunking into all chunks of the target
+abbrev pub IsWholeText : Wanted → (source target : Array) → List ℕ → Type 0
+IsWholeText wanted source target text = rechunking_text Target wanted source (all_chunks_box target.0.dimensions) target (Ok text)
 
-  -- the counts of that rechunking
-  pub record AreCountsOfAll (counts : Counts) : Type 0 where
-    pub groups : List Group
-    pub is_rechunking : IsRechunking source IsSourceKey target IsTargetKey (all_chunks_box target) groups
-    pub targets : Box
-    pub is_box : IsBox targets
-    pub are_targets : AreTargets target (array_box target) (IsInside (all_chunks_box target)) targets
-    pub counted : AreCopyCounts source target (array_box target) targets groups counts
+-- the counts of that rechunking
+pub record AreCountsOfAll (source target : Array) (counts : Counts) : Type 0 where
+  pub groups : List Group
+  pub is_rechunking : IsRechunking source.0.dimensions (IsKey source.1) target.0.dimensions (IsKey target.1) (all_chunks_box target.0.dimensions) groups
+  pub targets : Box
+  pub is_box : IsBox targets
+  pub are_targets : AreTargets target.0.dimensions (array_box target.0.dimensions) (IsInside (all_chunks_box target.0.dimensions)) targets
+  pub counted : AreCopyCounts source.0.dimensions target.0.dimensions (array_box target.0.dimensions) targets groups counts
 
-module _ (source : List Dimension) (IsSourceKey : List ℕ → List ℕ → Type 0) (target : List Dimension) (IsTargetKey : List ℕ → List ℕ → Type 0)
-    (most : ℕ) where
-  -- what is written of one of the two stages: from the source to the array between, or from that to the target
-  abbrev pub IsStageText : Stage → Wanted → List ℕ → Type 0
-  IsStageText First wanted text = (between : Grid) × IsBetween source target most between
-      × IsWholeText source IsSourceKey between.dimensions (IsKey between_keys) wanted text
-  IsStageText Second wanted text = (between : Grid) × IsBetween source target most between
-      × IsWholeText between.dimensions (IsKey between_keys) target IsTargetKey wanted text
+module _ (most : ℕ) (source target : Array) where
+  -- what is written of one of the two stages: from the source to the intermediate array, or from that to the target
+  abbrev pub IsStageText : Stage → Wanted → (between : Grid) → List ℕ → Type 0
+  IsStageText First wanted between = IsWholeText wanted source (between, between_keys)
+  IsStageText Second wanted between = IsWholeText wanted (between, between_keys) target
 
-  -- the counts of the two stages, by the array between with this shape of chunks
+  -- the counts of the two stages, by the intermediate array with this shape of chunks
   pub record AreCountsBetween (stages : StagesCounts) : Type 0 where
-    pub finds : FindsShape source target most (Some stages.shape.items)
+    pub finds : FindsShape source.0.dimensions target.0.dimensions most (Some stages.shape.items)
     pub between : Grid
-    pub is_regular : (grid_kind regular).makes between (array_sizes source) stages.shape.items
-    pub first : AreCountsOfAll source IsSourceKey between.dimensions (IsKey between_keys) stages.first
-    pub second : AreCountsOfAll between.dimensions (IsKey between_keys) target IsTargetKey stages.second
+    pub is_regular : (grid_kind regular).makes between (array_sizes source.0.dimensions) stages.shape.items
+    pub first : AreCountsOfAll source (between, between_keys) stages.first
+    pub second : AreCountsOfAll (between, between_keys) target stages.second
 
   -- what is written where the counts of one stage and of two are wanted
   pub record IsStagesCountsText (text : List ℕ) : Type 0 where
     pub largest : List ℕ
-    pub is_largest : IsLargest source largest
+    pub is_largest : IsLargest source.0.dimensions largest
     pub other : List ℕ
-    pub is_other : IsLargest target other
+    pub is_other : IsLargest target.0.dimensions other
     pub fits : Bool
-    pub is_fits : IsTrue fits ↔ HoldAtMost most largest other
+    pub is_fits : IsTrue fits ↔ HoldAtMost (bound_for (array_sizes source.0.dimensions) most) largest other
     pub one_stage : Counts
-    pub are_one : AreCountsOfAll source IsSourceKey target IsTargetKey one_stage
+    pub are_one : AreCountsOfAll source target one_stage
     pub stages : Option StagesCounts
-    pub are_two : MatchOption stages (FindsShape source target most None) AreCountsBetween
+    pub are_two : MatchOption stages (FindsShape source.0.dimensions target.0.dimensions most None) AreCountsBetween
     pub is : IsStagesLine fits one_stage stages text
 
-  -- What is written of a rechunking of which a worker holds at most so many elements: of a stage, where one is asked for; else the lines of one
-  -- stage, which fits, or the counts of one stage and of two.
-  abbrev pub IsTextWithin : Option Stage → Wanted → List ℕ → Type 0
-  IsTextWithin (Some stage) wanted text = IsStageText stage wanted text
-  IsTextWithin None (lines_wanted share) text =
-      FitsOneStage source target most × IsWholeText source IsSourceKey target IsTargetKey (lines_wanted share) text
-  IsTextWithin None counts_wanted text = IsStagesCountsText text
+  -- that, or that there is too much to go through to count both
+  abbrev pub stages_counts_text : Result (List ℕ) RunFault → Type 0
+  stages_counts_text (Ok text) = IsStagesCountsText text
+  stages_counts_text (Err (Stages error)) = IsStagesFault source.0.dimensions target.0.dimensions error
+  stages_counts_text (Err _) = ⊥
 
--- the index in the target's array at which a region begins: 0 in each dimension, where none is given
-abbrev pub begins_at : Box → Option (List ℕ) → List ℕ
-begins_at region at = unwrap_or at (replicate (length region.start) 0)
+-- What is written of a rechunking of which a worker holds at most `most` elements. If a stage is asked for, it is that stage. Otherwise it is the lines
+-- of one stage, which fits, or the counts of one stage and of two.
+abbrev pub within_text : (most : ℕ) → Option Stage → Wanted → (source target : Array) → Result (List ℕ) RunFault → Type 0
+within_text most (Some stage) wanted source target =
+    made_of (between_in source.0.dimensions target.0.dimensions most) (IsStageText most source target stage wanted)
+within_text most None (lines_wanted share) source target =
+    made_of (one_stage_in source.0.dimensions target.0.dimensions most) (λ _. IsWholeText (lines_wanted share) source target)
+within_text most None counts_wanted source target = stages_counts_text most source target
 
--- what is written of the copy of a region
-abbrev pub IsRegionText : Wanted → (source target : List Dimension) → (region : Box) → (at : List ℕ) → List Group → List ℕ → Type 0
-IsRegionText wanted source target region at = IsCopyText Target wanted source target region at AnyChunk
+-- ---- any copy
 
--- What a document wants of its plan, as text: of a read of a box of elements, or of all, or of a rechunking into the chunks of a box, or into all, or
--- of the copy of a region, or of a resize, whose two grids the same metadata make. In the order of the source, a rechunking is planned the other way
--- round: for each chunk of the source as what is copied into it from those of the target, which is what it gives to them. No document asks for its counts.
--- Where a worker holds at most so many elements, it is the rechunking in one stage, or one of its two stages, or the counts of all of these.
-pub data IsPlanned (document : Document) (text : List ℕ) : Type 0 where
-  of_read : (subset : Option Box) (clip : Bool) (ranges : Option RangesWanted) (asked : Box) (grid : Grid) (encoding : Encoding) (parts : List Part)
-      → document.task ≡ read_of subset clip ranges → IsStored document.stored document.shape grid encoding
-      → IsAsked clip grid.dimensions (unwrap_or subset (array_box grid.dimensions)) asked
-      → IsReadPlan grid.dimensions (IsKey encoding) asked parts → IsReadText document.wanted ranges asked parts text → IsPlanned document text
-  of_rechunking : (stored : Stored) (chunks : Option Box) (source target : Grid) (source_encoding target_encoding : Encoding) (groups : List Group)
-      → document.task ≡ rechunk_to stored chunks → IsStored document.stored document.shape source source_encoding
-      → IsStored stored document.shape target target_encoding
-      → length (unwrap_or chunks (all_chunks_box target.dimensions)).start ≡ length target.dimensions
-      → IsRechunking source.dimensions (IsKey source_encoding) target.dimensions (IsKey target_encoding)
-      (unwrap_or chunks (all_chunks_box target.dimensions)) groups
-      → IsRechunkingText Target document.wanted source.dimensions target.dimensions (unwrap_or chunks (all_chunks_box target.dimensions)) groups text
-      → IsPlanned document text
-  of_source_order : (stored : Stored) (source target : Grid) (source_encoding target_encoding : Encoding) (groups : List Group)
-      → document.task ≡ rechunk_by_source stored → IsStored document.stored document.shape source source_encoding
-      → IsStored stored document.shape target target_encoding
-      → IsRechunking target.dimensions (IsKey target_encoding) source.dimensions (IsKey source_encoding) (all_chunks_box source.dimensions) groups
-      → IsRechunkingText Source document.wanted target.dimensions source.dimensions (all_chunks_box source.dimensions) groups text
-      → IsPlanned document text
-  of_bound : (stored : Stored) (most : ℕ) (stage : Option Stage) (source target : Grid) (source_encoding target_encoding : Encoding)
-      → document.task ≡ rechunk_within stored most stage → IsStored document.stored document.shape source source_encoding
-      → IsStored stored document.shape target target_encoding
-      → IsTextWithin source.dimensions (IsKey source_encoding) target.dimensions (IsKey target_encoding) most stage document.wanted text
-      → IsPlanned document text
-  of_region : (shape : List ℕ) (stored : Stored) (region : Box) (at : Option (List ℕ)) (source target : Grid)
-      (source_encoding target_encoding : Encoding) (groups : List Group) → document.task ≡ copy_to shape stored region at
-      → IsStored document.stored document.shape source source_encoding → IsStored stored shape target target_encoding
-      → IsRegionCopy source.dimensions (IsKey source_encoding) target.dimensions (IsKey target_encoding) region (begins_at region at) groups
-      → IsRegionText document.wanted source.dimensions target.dimensions region (begins_at region at) groups text → IsPlanned document text
-  of_resize : (shape : List ℕ) (keep : Bool) (before after : Grid) (encoding : Encoding) (changes : List ChunkChange)
-      → document.task ≡ resize_to shape keep → IsStored document.stored document.shape before encoding → IsGrid document.stored.chunk_grid shape after
-      → IsResizePlan before.dimensions after.dimensions (IsKey encoding) keep changes → text ≡ resize_lines changes → IsPlanned document text
+-- the shape of the target: the array's own, but for a region
+abbrev pub target_shape : Copying → (own : List ℕ) → List ℕ
+target_shape (to_region shape region at) own = shape
+target_shape _ own = own
 
--- The plan of a rechunking in the order of the target or of the copy of a region, which a document asks for: its groups, and how the target's array is stored.
-pub data ArePlanned (document : Document) (target : Grid) (encoding : Encoding) (groups : List Group) : Type 0 where
-  of_rechunking : (stored : Stored) (chunks : Option Box) (source : Grid) (source_encoding : Encoding) → document.task ≡ rechunk_to stored chunks
-      → IsStored document.stored document.shape source source_encoding → IsStored stored document.shape target encoding
-      → length (unwrap_or chunks (all_chunks_box target.dimensions)).start ≡ length target.dimensions
-      → IsRechunking source.dimensions (IsKey source_encoding) target.dimensions (IsKey encoding)
-      (unwrap_or chunks (all_chunks_box target.dimensions)) groups → ArePlanned document target encoding groups
-  of_region : (shape : List ℕ) (stored : Stored) (region : Box) (at : Option (List ℕ)) (source : Grid) (source_encoding : Encoding)
-      → document.task ≡ copy_to shape stored region at → IsStored document.stored document.shape source source_encoding
-      → IsStored stored shape target encoding
-      → IsRegionCopy source.dimensions (IsKey source_encoding) target.dimensions (IsKey encoding) region (begins_at region at) groups
-      → ArePlanned document target encoding groups
+-- What is written of it. A rechunking in the order of the source is planned the other way round. For each chunk of the source it has what is copied
+-- into it from the chunks of the target, which is what it gives to them. No document asks for the counts of that.
+abbrev pub copy_text : Copying → Wanted → (source target : Array) → Result (List ℕ) RunFault → Type 0
+copy_text (into_chunks chunks) wanted source target =
+    rechunking_text Target wanted source (unwrap_or chunks (all_chunks_box target.0.dimensions)) target
+copy_text by_source wanted source target = rechunking_text Source wanted target (all_chunks_box source.0.dimensions) source
+copy_text (within_bound most stage) wanted source target = within_text most stage wanted source target
+copy_text (to_region shape region at) wanted source target = region_text wanted source region (begins_at region at) target
 
--- What a document wants of its plan, as text, where the target's store has these keys.
-pub record IsPlannedBeside (document : Document) (keys : List (List ℕ)) (text : List ℕ) : Type 0 where
-  pub target : Grid
-  pub encoding : Encoding
-  pub groups : List Group
-  pub share : Share
-  pub planned : ArePlanned document target encoding groups
-  pub wanted : document.wanted ≡ lines_wanted share
-  pub is_text : IsMissingText target.dimensions (IsKey encoding) keys share groups text
+-- What is written of a share of a plan to this target if its store has the keys in some lines; or what is wrong with these keys.
+abbrev pub missing_text : Share → (bytes : List ℕ) → (target : Array) → List Group → Result (List ℕ) RunFault → Type 0
+missing_text share bytes target groups (Ok text) = (keys : List (List ℕ)) × AreKeys bytes keys
+    × IsMissingText target.0.dimensions (IsKey target.1) keys share groups text
+missing_text share bytes target groups (Err fault) = IsKeysFault groups bytes fault
 
--- The text that the program writes for an input: that is a document; or its first line is one, in which `keys` is true, and keys stand behind it.
-pub data IsPlanOf (input text : List ℕ) : Type 0 where
-  of_document : (document : Document) → (¬ HasKeysBehind (first_line input)) → document_in input (Ok document)
-      → document.keys ≡ false → IsPlanned document text → IsPlanOf input text
-  of_keys : (document : Document) (keys : List (List ℕ)) → HasKeysBehind (first_line input) → document_in (first_line input) (Ok document)
-      → AreKeys (behind_first input) keys → IsPlannedBeside document keys text → IsPlanOf input text
+-- so of a rechunking in the order of the target, or of the copy of a region
+abbrev pub groups_of : Copying → (source target : Array) → Result (List Group) RunFault → Type 0
+groups_of (into_chunks chunks) source target = rechunking_of source (unwrap_or chunks (all_chunks_box target.0.dimensions)) target
+groups_of (to_region shape region at) source target = region_of source region (begins_at region at) target
+groups_of _ source target = λ _. ⊥
+
+abbrev pub copy_beside : Copying → Share → (bytes : List ℕ) → (source target : Array) → Result (List ℕ) RunFault → Type 0
+copy_beside copying share bytes source target = then (groups_of copying source target) (missing_text share bytes target)
+
+-- ---- a resize
+
+-- the grid of the new shape, which the array's metadata make, or why they make none
+abbrev pub resized_in : Stored → (shape : List ℕ) → Result Grid RunFault → Type 0
+resized_in stored shape (Ok grid) = IsGrid stored.chunk_grid shape grid
+resized_in stored shape (Err (ResizedGrid error)) = IsGridFault stored.chunk_grid shape error
+resized_in stored shape (Err _) = ⊥
+
+-- what is written of the resize to a grid
+abbrev pub IsResizeText : (keep : Bool) → Array → (after : Grid) → List ℕ → Type 0
+IsResizeText keep array after text = (changes : List ChunkChange)
+    × IsResizePlan array.0.dimensions after.dimensions (IsKey array.1) keep changes × (text ≡ resize_lines changes)
+
+-- ---- a document
+
+-- What a document asks for of its plan, as text, or its first fault, by its task. The faults of the array's own grid and encoding come first, and then
+-- the faults of the target.
+abbrev pub text_by : Document → (source : Array) → Task → Result (List ℕ) RunFault → Type 0
+text_by document source (read_of subset clip ranges) =
+    read_text document.wanted clip ranges source (unwrap_or subset (array_box source.0.dimensions))
+text_by document source (copy_to stored copying) =
+    then (target_in stored (target_shape copying document.shape)) (copy_text copying document.wanted source)
+text_by document source (resize_to shape keep) = made_of (resized_in document.stored shape) (IsResizeText keep source)
+
+abbrev pub text_of : Document → Result (List ℕ) RunFault → Type 0
+text_of document = then (source_in document) (λ source. text_by document source document.task)
+
+-- so before lines of keys: of the lines of a share of such a copy
+abbrev pub beside_by : Document → (bytes : List ℕ) → Wanted → Task → (source : Array) → Result (List ℕ) RunFault → Type 0
+beside_by document bytes (lines_wanted share) (copy_to stored copying) source =
+    then (target_in stored (target_shape copying document.shape)) (copy_beside copying share bytes source)
+beside_by document bytes _ _ source = λ _. ⊥
+
+abbrev pub text_beside : Document → (bytes : List ℕ) → Result (List ℕ) RunFault → Type 0
+text_beside document bytes = then (source_in document) (beside_by document bytes document.wanted document.task)
+
+-- ---- an input
+
+-- The first fault of an input that is no document, and whose first line has no keys after it. If the input is no JSON, but its first lines are a document
+-- with keys after it, the fault is that this isn't one line.
+pub data IsWholeFault (input : List ℕ) (fault : RunFault) : Type 0 where
+  of_input : document_in input (Err fault) → (fault ≡ NotJson → ¬ HasKeysBehind (closed_lines input)) → IsWholeFault input fault
+  several_lines : document_in input (Err NotJson) → HasKeysBehind (closed_lines input) → fault ≡ KeysOfLongDocument → IsWholeFault input fault
+
+-- the document that a whole input is, or that fault
+abbrev pub whole_in : (input : List ℕ) → Result Document RunFault → Type 0
+whole_in input (Ok document) = document_in input (Ok document)
+whole_in input (Err fault) = IsWholeFault input fault
+
+-- the text that it wants, unless `keys` is true in it
+abbrev pub text_unless : (keys : Bool) → Document → Result (List ℕ) RunFault → Type 0
+text_unless false document text = text_of document text
+text_unless true document (Ok text) = ⊥
+text_unless true document (Err fault) = fault ≡ KeysOfLongDocument
+
+-- the text for a first line with lines of keys after it
+abbrev pub text_of_line : (line bytes : List ℕ) → Result (List ℕ) RunFault → Type 0
+text_of_line line bytes = then (document_in line) (λ document. text_beside document bytes)
+
+-- The text that the program writes for an input, or its first fault. The whole input is a document. Or its first line is JSON in which `keys` is true,
+-- and keys come after that line.
+pub data IsPlanOf (input : List ℕ) (text : Result (List ℕ) RunFault) : Type 0 where
+  of_document : (¬ HasKeysBehind (first_line input)) → then (whole_in input) (λ document. text_unless document.keys document) text → IsPlanOf input text
+  of_keys : HasKeysBehind (first_line input) → text_of_line (first_line input) (behind_first input) text → IsPlanOf input text

@@ -1,17 +1,15 @@
 -- What a run of the program leaves.
-use Rattle.std.specs.Prelude.{◌≡◌, ◌⊎◌, ℕ, true, false, List, [], ◌++◌, Some, Result, Ok, Err, MatchResult}
+use Rattle.programs.specs.chunkplan.Common.{◌≡◌, ◌⊎◌, ℕ, true, false, List, [], ◌++◌, Some, Result, Ok, Err, MatchResult, RunFault, Memory, Read}
+use Rattle.programs.specs.chunkplan.Common.{Write}
 use Rattle.streams.specs.Streams.{IsReadToEnd, IsWritten, Streams}
 use Rattle.programs.specs.chunkplan.Keys.{HasKeysBehind, first_line}
-use Rattle.programs.specs.chunkplan.PlanFault.{IsFirstFault}
 use Rattle.programs.specs.chunkplan.Planned.{IsPlanOf}
-use Rattle.programs.specs.declared.chunkplan.run_fault.RunFault.{RunFault}
-use Rattle.programs.specs.declared.chunkplan.run_fault.RunFault.TheVariants.{Memory, Read, Write}
 
 -- a beginning of the plan was written behind what the writer held
 abbrev pub HasBegunPlan : (input held : List ℕ) → Streams → Type 0
 HasBegunPlan input held s =
     (text : List ℕ) × (written : List ℕ) × (rest : List ℕ)
-    × IsPlanOf input text × (text ≡ written ++ rest) × (s.holds ≡ Some (held ++ written))
+    × IsPlanOf input (Ok text) × (text ≡ written ++ rest) × (s.holds ≡ Some (held ++ written))
 
 -- no read failed, and nothing is left to read, but for keys behind a document
 abbrev pub HasRead : (input : List ℕ) → Streams → Type 0
@@ -20,12 +18,12 @@ HasRead input s = (s.read_failed ≡ false) × ((¬ HasKeysBehind (first_line in
 -- A run over a reader that had the input left and a writer that held some bytes: what it leaves, by its outcome. Lines are written as they
 -- are made, so where memory runs out, a beginning of the plan may have been written.
 abbrev pub RunLeaves : (input held : List ℕ) → Result (Unit {0}) RunFault → Streams → Type 0
-RunLeaves input held (Ok _) s = IsReadToEnd s × (text : List ℕ) × IsPlanOf input text × IsWritten (held ++ text) s
+RunLeaves input held (Ok _) s = IsReadToEnd s × (text : List ℕ) × IsPlanOf input (Ok text) × IsWritten (held ++ text) s
 RunLeaves input held (Err Read) s = (s.read_failed ≡ true) × IsWritten held s
 RunLeaves input held (Err Memory) s =
     (s.read_failed ≡ false) × (s.write_failed ≡ false) × ((s.holds ≡ Some held) ⊎ HasBegunPlan input held s)
 RunLeaves input held (Err Write) s = IsReadToEnd s × HasBegunPlan input held s × (s.write_failed ≡ true)
-RunLeaves input held (Err fault) s = HasRead input s × IsFirstFault input fault × IsWritten held s
+RunLeaves input held (Err fault) s = HasRead input s × IsPlanOf input (Err fault) × IsWritten held s
 
 -- A run ends with the status 0 where it succeeded, and with 1 after a fault.
 abbrev pub RunEndsWith : (input held : List ℕ) → (status : ℕ) → Streams → Type 0

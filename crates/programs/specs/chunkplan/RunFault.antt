@@ -1,19 +1,15 @@
 -- The faults of what the programs share, as a run of this program tells them.
-use Rattle.std.specs.Prelude.{Bool, true, false}
+use Rattle.programs.specs.chunkplan.Common.{Bool, true, false, RegionError, DocumentFault, RunFault, AtDimensionality, Encoding, Grid, Memory}
+use Rattle.programs.specs.chunkplan.Common.{Metadata, Missing, NotJson, NotObject, PastArray, PastTarget, Read, SubsetDimensionality}
+use Rattle.programs.specs.chunkplan.Common.{TargetDimensionality, TargetEncoding, TargetGrid, Write, WrongValue}
 use Rattle.zarrs_chunk_base.specs.declared.refusal.Refusal.{Refusal}
-use Rattle.zarrs_chunk_base.specs.declared.refusal.Refusal.TheVariants as refusal
-use Rattle.zarrs_chunk_plan.specs.declared.copy.region_error.RegionError.{RegionError}
-use Rattle.zarrs_chunk_plan.specs.declared.copy.region_error.RegionError.TheVariants as region
-use Rattle.documents.specs.declared.document_fault.DocumentFault.{DocumentFault}
-use Rattle.documents.specs.declared.document_fault.DocumentFault.TheVariants as document
 use Rattle.documents.specs.declared.stored.CreateFault.{CreateFault}
-use Rattle.documents.specs.declared.stored.CreateFault.TheVariants as create
 use Rattle.streams.specs.declared.stream_fault.StreamFault.{StreamFault}
+use Rattle.zarrs_chunk_base.specs.declared.refusal.Refusal.TheVariants as refusal
+use Rattle.zarrs_chunk_plan.specs.declared.copy.region_error.RegionError.TheVariants as region
+use Rattle.documents.specs.declared.document_fault.DocumentFault.TheVariants as document
+use Rattle.documents.specs.declared.stored.CreateFault.TheVariants as create
 use Rattle.streams.specs.declared.stream_fault.StreamFault.TheVariants as stream
-use Rattle.programs.specs.declared.chunkplan.run_fault.RunFault.{RunFault}
-use Rattle.programs.specs.declared.chunkplan.run_fault.RunFault.TheVariants.{AtDimensionality, Encoding, Grid, Memory, Metadata, Missing, NotJson}
-use Rattle.programs.specs.declared.chunkplan.run_fault.RunFault.TheVariants.{NotObject, PastArray, PastTarget, Read, SubsetDimensionality}
-use Rattle.programs.specs.declared.chunkplan.run_fault.RunFault.TheVariants.{TargetDimensionality, Write, WrongValue}
 
 -- the fault is that the input is no text of JSON
 abbrev pub is_not_json : RunFault → Bool
@@ -37,6 +33,12 @@ abbrev pub of_create : CreateFault → RunFault
 of_create (create.Grid error) = Grid error
 of_create (create.Encoding error) = Encoding error
 of_create create.Memory = Memory
+
+-- so of a target
+abbrev pub of_target : CreateFault → RunFault
+of_target (create.Grid error) = TargetGrid error
+of_target (create.Encoding error) = TargetEncoding error
+of_target create.Memory = Memory
 
 -- why a region can't be copied
 abbrev pub of_region : RegionError → RunFault

@@ -17,7 +17,7 @@ use zarrs_chunk_questions::answer_within;
 /// How many bytes a line may have.
 const LONGEST_LINE: usize = 1 << 24;
 
-/// How many bytes the items of an answer may take, where each number has one digit.
+/// How many bytes the items of an answer may take, if each number counts as one digit and a byte after it, and each item as a byte more.
 const ROOM: usize = 1 << 18;
 
 const LONG_LINE: &[u8] = b"unreadable: line is longer than 16777216 bytes\n";

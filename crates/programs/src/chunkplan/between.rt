@@ -1,10 +1,8 @@
-//! The array between, by which a rechunking goes in two stages.
-ghost use Rattle.std.specs.Prelude.{◌≡◌, ◌⊎◌, IfErr, IfOk, MatchOption, None, length, map};
-ghost use Rattle.std.specs.Int.NonZero.{non_zero_u64_get};
-ghost use Rattle.zarrs_chunk_plan.specs.Stages.{FindsShape, IsStagesFault};
+//! The intermediate array, by which a rechunking goes in two stages.
+ghost use Rattle.programs.specs.chunkplan.Common.{◌≡◌, ◌⊎◌, IfErr, IfOk, MatchOption, None, length, map, non_zero_u64_get, FindsShape, IsStagesFault};
+ghost use Rattle.programs.specs.chunkplan.Common.{Memory};
 ghost use Rattle.programs.specs.chunkplan.seen.Between.{IsMadeOf, IsOpened, TellsStages};
 ghost use Rattle.programs.specs.chunkplan.seen.Opened.{dimensions_of, sizes_of};
-ghost use Rattle.programs.specs.declared.chunkplan.run_fault.RunFault.TheVariants.{Memory};
 
 use crate::chunkplan::RunFault;
 use crate::chunkplan::opened::OpenedArray;
@@ -15,7 +13,7 @@ use zarrs_chunk_keys::{ChunkKeyEncoding, DefaultChunkKeyEncoding};
 use zarrs_chunk_plan::{StagesError, shape_between};
 use zarrs_chunks::{ChunkGrid, ChunkGridTraits, RegularChunkGrid};
 
-/// The array between.
+/// The intermediate array.
 #[derive(Drop)]
 pub(crate) struct Between {
     /// The shape of its chunks.
@@ -24,7 +22,7 @@ pub(crate) struct Between {
     pub(crate) array: OpenedArray,
 }
 
-/// The array between of a rechunking in two stages, whose lines hold at most so many elements; `None` where no chunk shape fits.
+/// The intermediate array of a rechunking in two stages, whose lines hold at most so many elements; `None` where no chunk shape fits.
 ///
 /// # Errors
 /// There is too much to go through; or out of memory.

@@ -1,22 +1,14 @@
 //! The lines of a plan, sent as they are made.
-ghost use Rattle.std.specs.Prelude.{◌≡◌, ◌⊎◌, ℕ, suc, List, length, option_map};
-ghost use Rattle.std.specs.List.{AllByRecursion};
-ghost use Rattle.zarrs_chunk_base.specs.ArraySubset.{IsBox};
-ghost use Rattle.zarrs_chunk_base.specs.Dimension.{array_sizes};
-ghost use Rattle.zarrs_chunk_base.specs.Greatest.{AllFit};
-ghost use Rattle.zarrs_chunk_plan.specs.Counted.{counted};
-ghost use Rattle.zarrs_chunk_plan.specs.Rechunking.{Group};
-ghost use Rattle.zarrs_chunk_plan.specs.Resize.{IsUsed};
+ghost use Rattle.programs.specs.chunkplan.Common.{◌≡◌, ◌⊎◌, ℕ, suc, List, length, option_map, AllByRecursion, IsBox, array_sizes, AllFit, counted};
+ghost use Rattle.programs.specs.chunkplan.Common.{Group, IsUsed, all_targets, region_of, written};
 ghost use Rattle.zarrs_chunk_parts.specs.declared.part.Part.{Part as PartValue};
 ghost use Rattle.zarrs_chunk_plan.specs.declared.resize.plan.ChunkChange.{ChunkChange as ChangeValue};
 ghost use Rattle.zarrs_chunk_plan.specs.seen.Changes.{AreChangesToCome, CanChange, all_changes, changes_to_come};
-ghost use Rattle.zarrs_chunk_plan.specs.seen.Copies.{all_targets, region_of};
 ghost use Rattle.programs.specs.chunkplan.Line.{group_line, lines_from, resize_lines};
 ghost use Rattle.programs.specs.chunkplan.seen.Missing.{is_left_out as left_out, line_unless_stored};
 ghost use Rattle.programs.specs.chunkplan.seen.Opened.{CanGiveCopies, CanGiveParts, CopiesToCome, PartsToCome, dimensions_in, key_in};
 ghost use Rattle.programs.specs.chunkplan.seen.Pieces.{text_as};
 ghost use Rattle.programs.specs.chunkplan.seen.Steps.{IsMade, StepLeaves};
-ghost use Rattle.streams.specs.seen.Sent.{written};
 
 use crate::chunkplan::RunFault;
 use crate::chunkplan::line::{Form, Order, change_line, line_begin, line_end, part_text};

@@ -1,9 +1,5 @@
 //! The counts of a plan, and the counts of a rechunking and of its two stages, as one line.
-ghost use Rattle.std.specs.Prelude.{◌≡◌, ◌++◌, ℕ, IfOk, List, OnOk};
-ghost use Rattle.json.specs.Print.{print};
-ghost use Rattle.json.specs.Tree.{json_tokens};
-ghost use Rattle.zarrs_chunk_keys.specs.Numeral.{IsNumeral};
-ghost use Rattle.zarrs_chunk_plan.specs.Counts.{product};
+ghost use Rattle.programs.specs.chunkplan.Common.{◌≡◌, ◌++◌, ℕ, IfOk, List, OnOk, print, json_tokens, IsNumeral, product};
 ghost use Rattle.programs.specs.chunkplan.CountsLine.{AreStagesObjects, IsCount, IsCountsLine, IsCountsObject, IsStagesLine, between_text, flag_text};
 ghost use Rattle.programs.specs.chunkplan.Line.{numbers_json};
 

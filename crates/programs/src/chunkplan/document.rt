@@ -1,15 +1,10 @@
 //! The program's document.
-ghost use Rattle.std.specs.Prelude.{None, option_map};
-ghost use Rattle.serde_json.specs.View.{view};
-ghost use Rattle.documents.specs.Reading.{IsRead, IsReadOr};
-ghost use Rattle.documents.specs.Stored.{stored_of};
+ghost use Rattle.programs.specs.chunkplan.Common.{None, option_map, view, IsRead, IsReadOr, stored_of, Memory, Unknown, UnknownOfTarget};
 ghost use Rattle.documents.specs.declared.document_fault.DocumentFault.TheVariants.{Memory as DocumentMemory};
-ghost use Rattle.programs.specs.chunkplan.Document.{checked_in, copying_in, document_in, document_of};
-ghost use Rattle.programs.specs.chunkplan.Document.{form_in, known_in, object_of, of_array, of_type};
-ghost use Rattle.programs.specs.chunkplan.Document.{rechunking_in, rechunking_within, region_in, target_stored_in, task_in, task_of};
+ghost use Rattle.programs.specs.chunkplan.Document.{checked_in, copying_in, document_in, document_of, form_in, known_in, object_of, of_array};
+ghost use Rattle.programs.specs.chunkplan.Document.{of_type, rechunking_in, rechunking_within, region_in, target_stored_in, task_in, task_of};
 ghost use Rattle.programs.specs.chunkplan.Document.{wanted_in, wanted_of};
 ghost use Rattle.programs.specs.chunkplan.Known.{known_members, zarr_json_members};
-ghost use Rattle.programs.specs.declared.chunkplan.run_fault.RunFault.TheVariants.{Memory, Unknown, UnknownOfTarget};
 
 use crate::chunkplan::RunFault;
 use crate::chunkplan::known_members::{DOCUMENT, ZARR_JSON, agree, check_known};
@@ -36,23 +31,8 @@ pub(crate) enum Task {
         clip: bool,
         ranges: Option<RangesAsked>,
     },
-    /// A rechunking into the chunks of a box of chunk numbers, or into all.
-    Rechunk(Stored, Option<ArraySubset>),
-    /// A rechunking in the order of the source: a line for each of its chunks.
-    RechunkBySource(Stored),
-    /// A rechunking of which a worker holds at most so many elements, or one of its two stages.
-    RechunkWithin {
-        target: Stored,
-        most: u64,
-        stage: Option<Stage>,
-    },
-    /// The copy of a region, a box of elements, to an array of this shape, to begin there at an index, or at 0.
-    Copy {
-        shape: Vec<u64>,
-        target: Stored,
-        region: ArraySubset,
-        at: Option<Vec<u64>>,
-    },
+    /// A copy to an array that is to be stored so.
+    Copy(Stored, Copying),
     /// A resize to this shape, and whether the chunks are wanted too that stay as they are stored.
     Resize {
         shape: Vec<u64>,
@@ -60,12 +40,32 @@ pub(crate) enum Task {
     },
 }
 
-/// One of the two stages of a rechunking by an array between.
+/// What is copied to another array.
+#[derive(Drop)]
+pub(crate) enum Copying {
+    /// All that goes into the chunks of a box of chunk numbers, or into all chunks.
+    Chunks(Option<ArraySubset>),
+    /// All, in the order of the source: a line for each of its chunks.
+    BySource,
+    /// All, where a worker holds at most so many elements, or one of the two stages of that.
+    Within {
+        most: u64,
+        stage: Option<Stage>,
+    },
+    /// A region, a box of elements, to an array of this shape, to begin there at an index, or at 0.
+    Region {
+        shape: Vec<u64>,
+        region: ArraySubset,
+        at: Option<Vec<u64>>,
+    },
+}
+
+/// One of the two stages of a rechunking by an intermediate array.
 #[derive(Clone, Copy, Drop)]
 pub(crate) enum Stage {
-    /// From the source to the array between.
+    /// From the source to the intermediate array.
     First,
-    /// From the array between to the target.
+    /// From the intermediate array to the target.
     Second,
 }
 
@@ -247,11 +247,7 @@ fn rechunking_to(alloc: Global, tree: &Value, mut target: Value) -> Result<Task,
     match optional_member(alloc, tree, "max_elements")? {
         Some(most) => {
             let stage = member_stage(alloc, tree)?;
-            Ok(Task::RechunkWithin {
-                target: stored,
-                most,
-                stage,
-            })
+            Ok(Task::Copy(stored, Copying::Within { most, stage }))
         }
         None => ordered(alloc, tree, stored),
     }
@@ -263,8 +259,11 @@ fn ordered(alloc: Global, tree: &Value, stored: Stored) -> Result<Task, RunFault
         (rechunking_within (view tree.now) (stored_of stored) None) result }
 {
     match member_order(tree)? {
-        Order::Target => Ok(Task::Rechunk(stored, member_box(alloc, tree, "chunks")?)),
-        Order::Source => Ok(Task::RechunkBySource(stored)),
+        Order::Target => {
+            let chunks = member_box(alloc, tree, "chunks")?;
+            Ok(Task::Copy(stored, Copying::Chunks(chunks)))
+        }
+        Order::Source => Ok(Task::Copy(stored, Copying::BySource)),
     }
 }
 
@@ -283,12 +282,7 @@ fn region_to(
     let target = take_target(alloc, &mut target)?;
     let region = read_box(alloc, subset, "subset")?;
     let at = member_numbers(alloc, tree, "at")?;
-    Ok(Task::Copy {
-        shape,
-        target,
-        region,
-        at,
-    })
+    Ok(Task::Copy(target, Copying::Region { shape, region, at }))
 }
 
 /// How a target says that it is stored, which is taken out of it.

@@ -1,13 +1,10 @@
 //! The keys behind a document, a line each.
-ghost use Rattle.std.specs.Prelude.{◌≡◌, ◌↔◌, ◌⊎◌, ◌++◌, ◌+◌, ◌<◌, ◌≤◌, ◌^◌, ◌∷◌, [], length, ℕ, IfErr, IfOk, IfSome, IsTrue, List, OnOk, Some};
+ghost use Rattle.programs.specs.chunkplan.Common.{◌≡◌, ◌↔◌, ◌⊎◌, ◌++◌, ◌+◌, ◌<◌, ◌≤◌, ◌^◌, ◌∷◌, [], length, ℕ, IfErr, IfOk, IfSome, IsTrue, List};
+ghost use Rattle.programs.specs.chunkplan.Common.{OnOk, Some, IsUtf8, has_failed, watched, KeyNotText, Memory, left};
 ghost use Rattle.std.specs.Io.BufRead.{take_through};
-ghost use Rattle.std.specs.Str.{IsUtf8};
-ghost use Rattle.streams.specs.Watched.{has_failed, watched};
 ghost use Rattle.programs.specs.chunkplan.Keys.{AreKeys, HasKeysBehind, IsKeyOfTarget, braces_after, closed_length, closed_lines, unended};
 ghost use Rattle.programs.specs.chunkplan.seen.Missing.{HaveMarked, HaveNoted, IsKeysStop, with_line};
 ghost use Rattle.programs.specs.chunkplan.seen.Opened.{dimensions_of, key_of};
-ghost use Rattle.programs.specs.declared.chunkplan.run_fault.RunFault.TheVariants.{KeyNotText, Memory};
-ghost use Rattle.streams.specs.seen.Lines.{left};
 
 use crate::chunkplan::RunFault;
 use crate::chunkplan::line::foreign_line;

@@ -1,6 +1,5 @@
 //! The members that a document may have: what is asked of an array, and what stands in its `zarr.json`.
-ghost use Rattle.std.specs.Prelude.{IfOk, MatchResult, cond, map};
-ghost use Rattle.serde_json.specs.View.{view};
+ghost use Rattle.programs.specs.chunkplan.Common.{IfOk, MatchResult, cond, map, view};
 ghost use Rattle.zarrs_chunk_base.specs.Refusal.{OrMemory};
 ghost use Rattle.programs.specs.chunkplan.Known.{Agree, Differ, HasOnly, IsFirstUnknown};
 

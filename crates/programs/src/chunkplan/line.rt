@@ -1,15 +1,13 @@
 //! The text of a line of a plan.
-ghost use Rattle.std.specs.Prelude.{◌≡◌, [], ◌∷◌, codes, option_map, IfOk, OnOk};
-ghost use Rattle.json.specs.Print.{print};
-ghost use Rattle.json.specs.Token.{begin_array, begin_object, boolean, end_array, end_object, key, null, string};
-ghost use Rattle.json.specs.Tree.{json_tokens};
+ghost use Rattle.programs.specs.chunkplan.Common.{◌≡◌, ◌++◌, [], ◌∷◌, codes, option_map, IfOk, OnOk, print, begin_array, begin_object, boolean, end_array};
+ghost use Rattle.programs.specs.chunkplan.Common.{end_object, key, json_tokens, Source, Target};
+ghost use Rattle.json.specs.Token.{null, string};
 ghost use Rattle.programs.specs.chunkplan.Document.{ranges_asked_of};
 ghost use Rattle.programs.specs.chunkplan.Keys.{foreign_json};
 ghost use Rattle.programs.specs.chunkplan.Line.{box_json, change_line, change_word, count_json, held_json, held_shape_json, line_of, numbers_json};
 ghost use Rattle.programs.specs.chunkplan.Line.{chunk_json, part_json, place_name};
 ghost use Rattle.programs.specs.chunkplan.seen.Added.{Adds};
 ghost use Rattle.programs.specs.chunkplan.seen.Pieces.{begin_of_line, comma_before, end_of_line, piece_text, ranges_tokens, text_as, whole_tokens};
-ghost use Rattle.programs.specs.declared.chunkplan.line.Order.TheVariants.{Source, Target};
 ghost use Rattle.streams.specs.OneLine.{line_of as one_line_of};
 
 use crate::chunkplan::part_ranges::write_ranges;
@@ -348,10 +346,9 @@ fn word_of(what: Change) -> &'static str
     }
 }
 
-/// The line of a writer that was begun on nothing.
+/// The line of what a writer has.
 fn ended(alloc: Global, json: Writer) -> Result<Vec<u8>, AllocError>
-    requires { json.before ≡ [] }
-    ensures { IfOk result (λ line. line.items ≡ one_line_of (print json.tokens)) }
+    ensures { IfOk result (λ line. line.items ≡ one_line_of (json.before ++ print json.tokens)) }
 {
     one_line(alloc, &json.into_inner())
 }

@@ -1,10 +1,6 @@
 //! Which members of a document go together.
-ghost use Rattle.std.specs.Prelude.{◌≡◌, IsFalse, IsTrue, MatchOption, is_some, map};
-ghost use Rattle.std.specs.List.{AllByRecursion};
-ghost use Rattle.serde_json.specs.Find.{get};
-ghost use Rattle.serde_json.specs.View.{view};
+ghost use Rattle.programs.specs.chunkplan.Common.{◌≡◌, IsFalse, IsTrue, MatchOption, is_some, map, AllByRecursion, get, view, IsRead};
 ghost use Rattle.zarrs_chunk_base.specs.First.{IsFirst};
-ghost use Rattle.documents.specs.Reading.{IsRead};
 ghost use Rattle.programs.specs.chunkplan.Document.{fits_in};
 ghost use Rattle.programs.specs.chunkplan.MemberRules.{is_broken, rule_of};
 

@@ -1,12 +1,7 @@
 //! What members of a document say, each in the form in which a document writes it.
-ghost use Rattle.std.specs.Prelude.{codes, option_map};
-ghost use Rattle.serde_json.specs.View.{view};
-ghost use Rattle.zarrs_chunk_base.specs.Json.{list_of, size_of};
-ghost use Rattle.documents.specs.Document.{optional_in};
-ghost use Rattle.documents.specs.Reading.{IsRead, IsReadOr};
+ghost use Rattle.programs.specs.chunkplan.Common.{codes, option_map, view, list_of, size_of, optional_in, IsRead, IsReadOr, Memory};
 ghost use Rattle.documents.specs.declared.document_fault.DocumentFault.TheVariants.{Memory as DocumentMemory};
 ghost use Rattle.programs.specs.chunkplan.Document.{box_in, box_of, flag_in, line_order_in, share_in, stage_of};
-ghost use Rattle.programs.specs.declared.chunkplan.run_fault.RunFault.TheVariants.{Memory};
 
 use crate::chunkplan::RunFault;
 use crate::chunkplan::document::Stage;

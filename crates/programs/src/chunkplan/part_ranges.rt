@@ -1,12 +1,9 @@
 //! The byte ranges of a part, as a line has them.
-ghost use Rattle.std.specs.Prelude.{◌≡◌, ◌∷◌, IfOk, IfSome, OnOk, Some, codes, length, option_map};
-ghost use Rattle.std.specs.Int.NonZero.{non_zero_u64_get};
-ghost use Rattle.json.specs.Json.{array};
-ghost use Rattle.json.specs.Token.{key, string};
-ghost use Rattle.json.specs.Tree.{json_tokens};
+ghost use Rattle.programs.specs.chunkplan.Common.{◌≡◌, ◌∷◌, IfOk, IfSome, OnOk, Some, codes, length, option_map, non_zero_u64_get, array, key};
+ghost use Rattle.programs.specs.chunkplan.Common.{json_tokens, order_text};
+ghost use Rattle.json.specs.Token.{string};
 ghost use Rattle.zarrs_chunk_plan.specs.Bytes.{HasPast, begins};
 ghost use Rattle.zarrs_chunk_plan.specs.Strided.{form_of, ranges_of};
-ghost use Rattle.zarrs_chunk_questions.specs.Order.{order_text};
 ghost use Rattle.programs.specs.chunkplan.Document.{ranges_asked_of};
 ghost use Rattle.programs.specs.chunkplan.Line.{list_json, numbers_json, part_ranges_json, range_items, strided_json};
 ghost use Rattle.programs.specs.chunkplan.seen.Added.{Adds};

@@ -1,33 +1,20 @@
 //! The plan that a document asks for.
-ghost use Rattle.std.specs.Prelude.{◌≡◌, ◌⊎◌, false, IfErr, IfOk, List, None, length, option_map, replicate, unwrap_or};
-ghost use Rattle.zarrs_chunk_base.specs.ArraySubset.{Box, IsBox};
-ghost use Rattle.zarrs_chunk_base.specs.Greatest.{AllFit};
-ghost use Rattle.zarrs_chunk_keys.specs.seen.Encodings.{encoding_in};
-ghost use Rattle.zarrs_chunks.specs.GridKinds.{IsGrid};
-ghost use Rattle.zarrs_chunks.specs.seen.Grids.{grid_in};
-ghost use Rattle.zarrs_chunk_plan.specs.Rechunking.{Group, IsRechunking, all_chunks_box, array_box};
-ghost use Rattle.zarrs_chunk_plan.specs.Region.{IsRegionCopy};
-ghost use Rattle.zarrs_chunk_plan.specs.Resize.{AreResized, IsResizePlan};
-ghost use Rattle.zarrs_chunk_parts.specs.declared.part.Part.{Part as PartValue};
-ghost use Rattle.zarrs_chunk_plan.specs.declared.resize.plan.ChunkChange.{ChunkChange as ChangeValue};
-ghost use Rattle.zarrs_chunk_plan.specs.seen.Copies.{all_targets, region_of, targets_to_come};
-ghost use Rattle.documents.specs.Stored.{IsStored, stored_of};
+ghost use Rattle.programs.specs.chunkplan.Common.{◌≡◌, ◌⊎◌, IfErr, IfOk, List, None, length, option_map, replicate, unwrap_or, IsBox, AllFit};
+ghost use Rattle.programs.specs.chunkplan.Common.{grid_in, Group, all_chunks_box, array_box, AreResized, all_targets, region_of, targets_to_come};
+ghost use Rattle.programs.specs.chunkplan.Common.{IsReadOr, stored_of, Memory, written};
 ghost use Rattle.programs.specs.chunkplan.CountsLine.{IsCountsLine};
-ghost use Rattle.programs.specs.chunkplan.Document.{counts_wanted, document_of, ranges_asked_of, wanted_of};
-ghost use Rattle.programs.specs.chunkplan.Line.{read_lines, resize_lines};
-ghost use Rattle.programs.specs.chunkplan.PlanFault.{IsChunksFault, IsCopyFault, IsPlanFault, IsReadFault, IsResizeFault, IsTargetFault};
-ghost use Rattle.programs.specs.chunkplan.Planned.{IsAsked, IsPlanned, IsReadPlan, IsReadText, IsRechunkingText, IsRegionText};
+ghost use Rattle.programs.specs.chunkplan.Document.{copying_of, counts_wanted, document_of, lines_wanted, ranges_asked_of, wanted_of};
+ghost use Rattle.programs.specs.chunkplan.Planned.{IsAsked, IsReadFault, IsResizeText, asked_text, read_text, rechunking_text, region_text};
+ghost use Rattle.programs.specs.chunkplan.Planned.{copy_text, resized_in, target_in, target_shape, text_of};
+ghost use Rattle.programs.specs.chunkplan.RunFault.{of_target as fault_of_target};
 ghost use Rattle.programs.specs.chunkplan.seen.Missing.{share_unless_stored};
-ghost use Rattle.programs.specs.chunkplan.seen.Opened.{CanGiveCopies, CopiesToCome, dimensions_in, dimensions_of, key_of, sizes_of};
-ghost use Rattle.programs.specs.chunkplan.seen.Steps.{StepLeaves};
-ghost use Rattle.programs.specs.declared.chunkplan.line.Order.TheVariants.{Target};
-ghost use Rattle.programs.specs.declared.chunkplan.run_fault.RunFault.TheVariants.{Memory};
-ghost use Rattle.streams.specs.seen.Sent.{written};
+ghost use Rattle.programs.specs.chunkplan.seen.Opened.{CanGiveCopies, CopiesToCome, array_in, dimensions_in, dimensions_of, sizes_of};
+ghost use Rattle.programs.specs.chunkplan.seen.Steps.{Leaves, StepLeaves};
 
 use crate::chunkplan::RunFault;
 use crate::chunkplan::copying::{send_text, write_changes, write_copies, write_parts};
 use crate::chunkplan::counting::counts_line;
-use crate::chunkplan::document::{Document, Task, Wanted};
+use crate::chunkplan::document::{Copying, Document, Task, Wanted};
 use crate::chunkplan::line::{Form, Order};
 use crate::chunkplan::opened::{OpenedArray, OpenedCopies};
 use crate::chunkplan::ranges::RangesAsked;
@@ -47,15 +34,14 @@ use zarrs_chunks::{ChunkGrid, ChunkGridTraits};
 ///
 /// # Errors
 /// The grid or the encoding can't be made, or those of the target, or the grid of the new shape; the box has another number of dimensions, or no
-/// cover, where it isn't clipped; the region doesn't fit the two arrays; a line of one stage would hold too many elements, no array between fits, or
+/// cover, where it isn't clipped; the region doesn't fit the two arrays; a line of one stage would hold too many elements, no intermediate array fits, or
 /// there is too much to go through for either; a write failed; or out of memory. Nothing has been written where it is none of the last two.
 pub(crate) fn write_plan<W: Write>(
     alloc: Global,
     document: Document,
     sink: &mut Sink<W>,
 ) -> Result<(), RunFault>
-    ensures { StepLeaves (IsPlanned (document_of document)) (IsPlanFault (document_of document))
-        result
+    ensures { Leaves (text_of (document_of document)) result
         (written W.contents sink.old) (written W.contents sink.new) }
 {
     let Document {
@@ -76,44 +62,25 @@ pub(crate) fn write_plan<W: Write>(
             let subset = or_whole_array(alloc, subset, &array.grid)?;
             write_read(alloc, &array, subset, clip, &ranges, &wanted, sink)
         }
-        Task::Rechunk(target, chunks) => {
+        Task::Copy(target, copying) => {
             drop(stored);
-            let target = open_target(alloc, target, &shape)?;
-            let chunks = or_all_chunks(alloc, chunks, &target.grid)?;
-            let order = Order::Target;
-            write_rechunking(alloc, &array, &target, &chunks, order, &wanted, sink)
-        }
-        Task::RechunkBySource(target) => {
-            drop(stored);
-            let target = open_target(alloc, target, &shape)?;
-            let chunks = all_chunks(alloc, &array.grid)?;
-            let order = Order::Source;
-            write_rechunking(alloc, &target, &array, &chunks, order, &wanted, sink)
-        }
-        Task::RechunkWithin {
-            target,
-            most,
-            stage,
-        } => {
-            drop(stored);
-            let target = open_target(alloc, target, &shape)?;
-            write_within(alloc, &array, &target, most, stage, &wanted, sink)
-        }
-        Task::Copy {
-            shape,
-            target,
-            region,
-            at,
-        } => {
-            drop(stored);
-            let target = open_target(alloc, target, &shape)?;
-            let at = or_zeros(alloc, at, region.dimensionality())?;
-            write_region(alloc, &array, &target, &region, &at, &wanted, sink)
+            let target = open_target(alloc, target, target_shape(&copying, &shape))?;
+            write_copy(alloc, &array, &target, copying, &wanted, sink)
         }
         Task::Resize { shape, keep } => {
             let after = resized_grid(alloc, stored, &shape)?;
             write_resize(alloc, &array, &after, keep, sink)
         }
+    }
+}
+
+/// The shape of the target's array: the array's own, but for a region.
+pub(crate) fn target_shape<'a>(copying: &'a Copying, own: &'a [u64]) -> &'a [u64]
+    ensures { result.now ≡ target_shape (copying_of copying.now) own.now }
+{
+    match copying {
+        Copying::Region { shape, .. } => shape.as_slice(),
+        _ => own,
     }
 }
 
@@ -123,26 +90,29 @@ pub(crate) fn open_target(
     stored: Stored,
     shape: &[u64],
 ) -> Result<OpenedArray, RunFault>
-    ensures made { IfOk result (λ made. IsStored (stored_of stored) shape.now
-        (grid_in made.grid) (encoding_in made.encoding)) }
+    ensures made { IsReadOr Memory array_in (target_in (stored_of stored) shape.now) result }
     ensures sizes { IfOk result (λ made. sizes_of made ≡ shape.now) }
-    ensures refused { IfErr result (λ fault. (fault ≡ Memory)
-        ⊎ IsTargetFault (stored_of stored) shape.now fault) }
 {
     match stored.open(alloc, shape) {
         Ok(made) => Ok(made),
-        Err(CreateFault::Grid(error)) => Err(RunFault::TargetGrid(error)),
-        Err(CreateFault::Encoding(error)) => Err(RunFault::TargetEncoding(error)),
-        Err(CreateFault::Memory) => Err(RunFault::Memory),
+        Err(fault) => Err(of_target(fault)),
+    }
+}
+
+/// The fault of a target that can't be made.
+fn of_target(fault: CreateFault) -> RunFault
+    ensures { result ≡ fault_of_target fault }
+{
+    match fault {
+        CreateFault::Grid(error) => RunFault::TargetGrid(error),
+        CreateFault::Encoding(error) => RunFault::TargetEncoding(error),
+        CreateFault::Memory => RunFault::Memory,
     }
 }
 
 /// The grid that the array's metadata make of another shape.
 fn resized_grid(alloc: Global, stored: Stored, shape: &[u64]) -> Result<ChunkGrid, RunFault>
-    ensures made { IfOk result (λ grid. IsGrid (stored_of stored).chunk_grid shape.now
-        (grid_in grid)) }
-    ensures refused { IfErr result (λ fault. (fault ≡ Memory)
-        ⊎ IsResizeFault (stored_of stored) shape.now fault) }
+    ensures { IsReadOr Memory grid_in (resized_in (stored_of stored) shape.now) result }
 {
     match ChunkGrid::from_metadata(alloc, &stored.chunk_grid, shape) {
         Ok(grid) => Ok(grid),
@@ -208,12 +178,8 @@ fn write_read<W: Write>(
     wanted: &Wanted,
     sink: &mut Sink<W>,
 ) -> Result<(), RunFault>
-    ensures { StepLeaves
-        (λ text. (asked : Box) × (parts : List PartValue)
-        × IsAsked clip (dimensions_of array.now) subset asked
-        × IsReadPlan (dimensions_of array.now) (key_of array.now) asked parts
-        × IsReadText (wanted_of wanted.now) (option_map ranges_asked_of ranges.now) asked parts text)
-        (IsReadFault clip (dimensions_of array.now) subset) result
+    ensures { Leaves (read_text (wanted_of wanted.now) clip (option_map ranges_asked_of ranges.now)
+        (array_in array.now) subset) result
         (written W.contents sink.old) (written W.contents sink.new) }
 {
     let asked = asked_box(alloc, &array.grid, subset, clip)?;
@@ -250,12 +216,8 @@ fn write_asked<W: Write>(
     wanted: &Wanted,
     sink: &mut Sink<W>,
 ) -> Result<(), RunFault>
-    ensures { StepLeaves
-        (λ text. (parts : List PartValue)
-        × IsReadPlan (dimensions_of array.now) (key_of array.now) subset.now parts
-        × IsReadText (wanted_of wanted.now) (option_map ranges_asked_of ranges.now) subset.now parts
-        text)
-        (IsReadFault false (dimensions_of array.now) subset.now) result
+    ensures { Leaves (asked_text (wanted_of wanted.now) (option_map ranges_asked_of ranges.now)
+        (array_in array.now) subset.now) result
         (written W.contents sink.old) (written W.contents sink.new) }
 {
     let dimensionality = subset.start().len();
@@ -280,11 +242,8 @@ fn write_parts_of<W: Write>(
     sink: &mut Sink<W>,
 ) -> Result<(), RunFault>
     requires lengths { length subset.now.start ≡ length (dimensions_of array.now) }
-    ensures { StepLeaves
-        (λ text. (parts : List PartValue)
-        × IsReadPlan (dimensions_of array.now) (key_of array.now) subset.now parts
-        × (text ≡ read_lines (option_map ranges_asked_of ranges.now) share.now parts))
-        (IsReadFault false (dimensions_of array.now) subset.now) result
+    ensures { Leaves (asked_text (lines_wanted share.now) (option_map ranges_asked_of ranges.now)
+        (array_in array.now) subset.now) result
         (written W.contents sink.old) (written W.contents sink.new) }
 {
     subset.is_a_box();
@@ -308,11 +267,7 @@ fn write_counts_of<W: Write>(
     sink: &mut Sink<W>,
 ) -> Result<(), RunFault>
     requires lengths { length subset.now.start ≡ length (dimensions_of array.now) }
-    ensures { StepLeaves
-        (λ text. (parts : List PartValue)
-        × IsReadPlan (dimensions_of array.now) (key_of array.now) subset.now parts
-        × IsReadText counts_wanted None subset.now parts text)
-        (IsReadFault false (dimensions_of array.now) subset.now) result
+    ensures { Leaves (asked_text counts_wanted None (array_in array.now) subset.now) result
         (written W.contents sink.old) (written W.contents sink.new) }
 {
     subset.is_a_box();
@@ -336,6 +291,41 @@ fn write_counts<W: Write>(
     send_text(counts_line(alloc, counts), sink)
 }
 
+/// Sends what is wanted of the plan of a copy.
+fn write_copy<W: Write>(
+    alloc: Global,
+    source: &OpenedArray,
+    target: &OpenedArray,
+    copying: Copying,
+    wanted: &Wanted,
+    sink: &mut Sink<W>,
+) -> Result<(), RunFault>
+    requires sizes { sizes_of target.now ≡ target_shape (copying_of copying) (sizes_of source.now) }
+    ensures { Leaves (copy_text (copying_of copying) (wanted_of wanted.now) (array_in source.now)
+        (array_in target.now)) result
+        (written W.contents sink.old) (written W.contents sink.new) }
+{
+    match copying {
+        Copying::Chunks(chunks) => {
+            let chunks = or_all_chunks(alloc, chunks, &target.grid)?;
+            let order = Order::Target;
+            write_rechunking(alloc, source, target, &chunks, order, wanted, sink)
+        }
+        Copying::BySource => {
+            let chunks = all_chunks(alloc, &source.grid)?;
+            let order = Order::Source;
+            write_rechunking(alloc, target, source, &chunks, order, wanted, sink)
+        }
+        Copying::Within { most, stage } => {
+            write_within(alloc, source, target, most, stage, wanted, sink)
+        }
+        Copying::Region { region, at, .. } => {
+            let at = or_zeros(alloc, at, region.dimensionality())?;
+            write_region(alloc, source, target, &region, &at, wanted, sink)
+        }
+    }
+}
+
 /// Sends what is wanted of the plan of a rechunking into the chunks of a box. In the order of the source, what is given as the source is the array as
 /// it is to be stored.
 pub(crate) fn write_rechunking<W: Write>(
@@ -348,14 +338,8 @@ pub(crate) fn write_rechunking<W: Write>(
     sink: &mut Sink<W>,
 ) -> Result<(), RunFault>
     requires one_array { sizes_of source.now ≡ sizes_of target.now }
-    ensures { StepLeaves
-        (λ text. (groups : List Group)
-        × IsRechunking (dimensions_of source.now) (key_of source.now)
-        (dimensions_of target.now) (key_of target.now) chunks.now groups
-        × (length chunks.now.start ≡ length (dimensions_of target.now))
-        × IsRechunkingText order (wanted_of wanted.now) (dimensions_of source.now)
-        (dimensions_of target.now) chunks.now groups text)
-        (IsChunksFault (dimensions_of target.now) chunks.now) result
+    ensures { Leaves (rechunking_text order (wanted_of wanted.now) (array_in source.now) chunks.now
+        (array_in target.now)) result
         (written W.contents sink.old) (written W.contents sink.new) }
 {
     match wanted {
@@ -406,14 +390,8 @@ fn write_region<W: Write>(
     wanted: &Wanted,
     sink: &mut Sink<W>,
 ) -> Result<(), RunFault>
-    ensures { StepLeaves
-        (λ text. (groups : List Group)
-        × IsRegionCopy (dimensions_of source.now) (key_of source.now)
-        (dimensions_of target.now) (key_of target.now) region.now at.now groups
-        × IsRegionText (wanted_of wanted.now) (dimensions_of source.now)
-        (dimensions_of target.now) region.now at.now groups text)
-        (IsCopyFault (dimensions_of source.now) (dimensions_of target.now)
-        region.now at.now) result
+    ensures { Leaves (region_text (wanted_of wanted.now) (array_in source.now) region.now at.now
+        (array_in target.now)) result
         (written W.contents sink.old) (written W.contents sink.new) }
 {
     region.is_a_box();
@@ -438,11 +416,7 @@ fn write_resize<W: Write>(
     sink: &mut Sink<W>,
 ) -> Result<(), RunFault>
     requires resized { AreResized (dimensions_of array.now) (dimensions_in after.now) }
-    ensures { StepLeaves
-        (λ text. (changes : List ChangeValue)
-        × IsResizePlan (dimensions_of array.now) (dimensions_in after.now)
-        (key_of array.now) keep changes
-        × (text ≡ resize_lines changes))
+    ensures { StepLeaves (IsResizeText keep (array_in array.now) (grid_in after.now))
         (λ _. ⊥) result
         (written W.contents sink.old) (written W.contents sink.new) }
 {

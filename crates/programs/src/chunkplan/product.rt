@@ -1,7 +1,5 @@
 //! Products of numbers, in decimal digits, however large they are.
-ghost use Rattle.std.specs.Prelude.{◌≡◌, ◌+◌, ◌*◌, ◌<◌, ℕ, IfOk, OnOk};
-ghost use Rattle.zarrs_chunk_keys.specs.Numeral.{IsNumeral};
-ghost use Rattle.zarrs_chunk_plan.specs.Counts.{product};
+ghost use Rattle.programs.specs.chunkplan.Common.{◌≡◌, ◌+◌, ◌*◌, ◌<◌, ℕ, IfOk, OnOk, IsNumeral, product};
 ghost use Rattle.programs.specs.chunkplan.seen.Digits.{AreDigits, HasText, value};
 
 use std::alloc::{AllocError, Global};

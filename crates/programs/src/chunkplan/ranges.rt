@@ -1,10 +1,6 @@
 //! The byte ranges that a document wants in the lines of a read.
-ghost use Rattle.std.specs.Prelude.{codes, option_map};
-ghost use Rattle.serde_json.specs.View.{view};
+ghost use Rattle.programs.specs.chunkplan.Common.{codes, option_map, view, order_in, in_form_or, IsReadOr};
 ghost use Rattle.zarrs_chunk_plan.specs.declared.bytes.ranges.MemoryOrder.TheVariants.{C};
-ghost use Rattle.zarrs_chunk_questions.specs.Order.{order_in};
-ghost use Rattle.documents.specs.Document.{in_form_or};
-ghost use Rattle.documents.specs.Reading.{IsReadOr};
 ghost use Rattle.documents.specs.declared.document_fault.DocumentFault.TheVariants.{Memory};
 ghost use Rattle.programs.specs.chunkplan.Document.{most_of, ranges_asked_of, ranges_in};
 

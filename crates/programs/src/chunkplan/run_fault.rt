@@ -1,7 +1,6 @@
 //! Why a run of the program stops.
-ghost use Rattle.std.specs.Prelude.{◌≡◌};
+ghost use Rattle.programs.specs.chunkplan.Common.{◌≡◌, Copies, Memory};
 ghost use Rattle.programs.specs.chunkplan.RunFault.{of_create, of_document, of_refusal, of_region, of_stream};
-ghost use Rattle.programs.specs.declared.chunkplan.run_fault.RunFault.TheVariants.{Copies, Memory};
 
 use crate::chunkplan::known_members::UnknownMember;
 use crate::chunkplan::member_rules::MemberRule;
@@ -95,10 +94,10 @@ pub enum RunFault {
     /// A line of one stage would hold too many elements.
     #[error("a line of one stage would hold more than `max_elements` elements: ask for `stage` 1 and then for `stage` 2, or for their `counts`")]
     NotInOneStage,
-    /// No chunk shape that is tried for an array between fits.
-    #[error("no chunk shape that is tried for an array between holds few enough elements for `max_elements`: ask for more")]
+    /// No chunk shape that is tried for an intermediate array fits.
+    #[error("no chunk shape that is tried for an intermediate array holds few enough elements for `max_elements`: ask for more")]
     NoShape,
-    /// There is too much to go through to tell how many elements a line holds, or to find an array between.
+    /// There is too much to go through to tell how many elements a line holds, or to find an intermediate array.
     #[error(transparent)]
     Stages(StagesError),
     /// The plan has more lines than there are bits for, one a line.

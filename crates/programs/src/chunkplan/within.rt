@@ -1,14 +1,12 @@
-//! The plan of a rechunking of which a worker holds at most so many elements: in one stage, or in two, by an array between.
-ghost use Rattle.std.specs.Prelude.{◌≡◌, ◌⊎◌, ◌↔◌, ℕ, IfErr, IfOk, IsTrue, List, MatchOption, None};
-ghost use Rattle.zarrs_chunk_plan.specs.Stages.{FindsShape, HoldAtMost, IsLargest, IsBoundFault, IsStagesFault};
+//! The plan of a rechunking of which a worker holds at most so many elements: in one stage, or in two, by an intermediate array.
+ghost use Rattle.programs.specs.chunkplan.Common.{◌≡◌, ◌⊎◌, ◌↔◌, ℕ, IfErr, IfOk, IsTrue, List, MatchOption, None, Some, FindsShape, HoldAtMost};
+ghost use Rattle.zarrs_chunk_plan.specs.Stages.{bound_for};
+ghost use Rattle.programs.specs.chunkplan.Common.{IsLargest, IsBoundFault, IsStagesFault, made_of, Memory, written};
 ghost use Rattle.programs.specs.chunkplan.Document.{wanted_of};
-ghost use Rattle.programs.specs.chunkplan.PlanFault.{IsBetweenFault, IsFaultWithin, IsOneStageFault, IsStagesCountsFault};
-ghost use Rattle.programs.specs.chunkplan.Planned.{AreCountsBetween, AreCountsOfAll, FitsOneStage, IsStageText, IsStagesCountsText, IsTextWithin, IsWholeText};
+ghost use Rattle.programs.specs.chunkplan.Planned.{AreCountsBetween, AreCountsOfAll, IsWholeText, one_stage_in, stages_counts_text, within_text};
 ghost use Rattle.programs.specs.chunkplan.seen.Between.{TellsStages};
-ghost use Rattle.programs.specs.chunkplan.seen.Opened.{dimensions_of, key_of, sizes_of};
-ghost use Rattle.programs.specs.chunkplan.seen.Steps.{StepLeaves};
-ghost use Rattle.programs.specs.declared.chunkplan.run_fault.RunFault.TheVariants.{Memory};
-ghost use Rattle.streams.specs.seen.Sent.{written};
+ghost use Rattle.programs.specs.chunkplan.seen.Opened.{array_in, dimensions_of, sizes_of};
+ghost use Rattle.programs.specs.chunkplan.seen.Steps.{Leaves, StepLeaves};
 
 use crate::chunkplan::RunFault;
 use crate::chunkplan::between::{Between, find_between};
@@ -28,7 +26,7 @@ use zarrs_chunk_plan::{Counts, StagesError, all_chunks, counts_of_rechunking, ho
 /// the lines of one stage, or the counts of one stage and of two.
 ///
 /// # Errors
-/// There is too much to go through; the lines of one stage would hold more; no array between fits; a write failed; or out of memory. Nothing has been
+/// There is too much to go through; the lines of one stage would hold more; no intermediate array fits; a write failed; or out of memory. Nothing has been
 /// written where it is none of the last two.
 pub(crate) fn write_within<W: Write>(
     alloc: Global,
@@ -40,12 +38,8 @@ pub(crate) fn write_within<W: Write>(
     sink: &mut Sink<W>,
 ) -> Result<(), RunFault>
     requires one_array { sizes_of source.now ≡ sizes_of target.now }
-    ensures { StepLeaves
-        (IsTextWithin (dimensions_of source.now) (key_of source.now)
-        (dimensions_of target.now) (key_of target.now) most stage
-        (wanted_of wanted.now))
-        (IsFaultWithin (dimensions_of source.now) (dimensions_of target.now) most stage
-        (wanted_of wanted.now)) result
+    ensures { Leaves (within_text most stage (wanted_of wanted.now) (array_in source.now)
+        (array_in target.now)) result
         (written W.contents sink.old) (written W.contents sink.new) }
 {
     match stage {
@@ -68,11 +62,8 @@ fn write_stage<W: Write>(
     sink: &mut Sink<W>,
 ) -> Result<(), RunFault>
     requires one_array { sizes_of source.now ≡ sizes_of target.now }
-    ensures { StepLeaves
-        (IsStageText (dimensions_of source.now) (key_of source.now)
-        (dimensions_of target.now) (key_of target.now) most stage
-        (wanted_of wanted.now))
-        (IsBetweenFault (dimensions_of source.now) (dimensions_of target.now) most) result
+    ensures { Leaves (within_text most (Some stage) (wanted_of wanted.now) (array_in source.now)
+        (array_in target.now)) result
         (written W.contents sink.old) (written W.contents sink.new) }
 {
     let Some(between) = find_between(alloc, source, target, most)? else {
@@ -94,11 +85,8 @@ fn write_one_stage<W: Write>(
     sink: &mut Sink<W>,
 ) -> Result<(), RunFault>
     requires one_array { sizes_of source.now ≡ sizes_of target.now }
-    ensures { StepLeaves
-        (λ text. FitsOneStage (dimensions_of source.now) (dimensions_of target.now) most
-        × IsWholeText (dimensions_of source.now) (key_of source.now)
-        (dimensions_of target.now) (key_of target.now) (wanted_of wanted.now) text)
-        (IsOneStageFault (dimensions_of source.now) (dimensions_of target.now) most) result
+    ensures { Leaves (made_of (one_stage_in (dimensions_of source.now) (dimensions_of target.now) most)
+        (λ _. IsWholeText (wanted_of wanted.now) (array_in source.now) (array_in target.now))) result
         (written W.contents sink.old) (written W.contents sink.new) }
 {
     let fits = fits_one_stage(alloc, source, target, most)?;
@@ -117,10 +105,7 @@ fn write_stages_counts<W: Write>(
     sink: &mut Sink<W>,
 ) -> Result<(), RunFault>
     requires one_array { sizes_of source.now ≡ sizes_of target.now }
-    ensures { StepLeaves
-        (IsStagesCountsText (dimensions_of source.now) (key_of source.now)
-        (dimensions_of target.now) (key_of target.now) most)
-        (IsStagesCountsFault (dimensions_of source.now) (dimensions_of target.now)) result
+    ensures { Leaves (stages_counts_text most (array_in source.now) (array_in target.now)) result
         (written W.contents sink.old) (written W.contents sink.new) }
 {
     let fits = fits_one_stage(alloc, source, target, most)?;
@@ -130,7 +115,7 @@ fn write_stages_counts<W: Write>(
     send_text(line, sink)
 }
 
-/// The counts of the two stages; `None` where no array between fits.
+/// The counts of the two stages; `None` where no intermediate array fits.
 fn counts_between(
     alloc: Global,
     source: &OpenedArray,
@@ -140,8 +125,7 @@ fn counts_between(
     requires one_array { sizes_of source.now ≡ sizes_of target.now }
     ensures found { IfOk result (λ found. MatchOption found
         (FindsShape (dimensions_of source.now) (dimensions_of target.now) most None)
-        (AreCountsBetween (dimensions_of source.now) (key_of source.now)
-        (dimensions_of target.now) (key_of target.now) most)) }
+        (AreCountsBetween most (array_in source.now) (array_in target.now))) }
     ensures refused { IfErr result (λ fault. (fault ≡ Memory) ⊎ TellsStages (IsStagesFault
         (dimensions_of source.now) (dimensions_of target.now)) fault) }
 {
@@ -168,7 +152,7 @@ fn fits_one_stage(
     requires { sizes_of source.now ≡ sizes_of target.now }
     ensures held { IfOk result (λ fits. (largest other : List ℕ)
         × IsLargest (dimensions_of source.now) largest × IsLargest (dimensions_of target.now) other
-        × (IsTrue fits ↔ HoldAtMost most largest other)) }
+        × (IsTrue fits ↔ HoldAtMost (bound_for (sizes_of source.now) most) largest other)) }
     ensures refused { IfErr result (λ fault. (fault ≡ Memory) ⊎ TellsStages (IsBoundFault
         (dimensions_of source.now) (dimensions_of target.now)) fault) }
 {
@@ -191,8 +175,7 @@ fn write_whole<W: Write>(
 ) -> Result<(), RunFault>
     requires one_array { sizes_of source.now ≡ sizes_of target.now }
     ensures { StepLeaves
-        (IsWholeText (dimensions_of source.now) (key_of source.now)
-        (dimensions_of target.now) (key_of target.now) (wanted_of wanted.now))
+        (IsWholeText (wanted_of wanted.now) (array_in source.now) (array_in target.now))
         (λ _. ⊥) result
         (written W.contents sink.old) (written W.contents sink.new) }
 {
@@ -211,9 +194,7 @@ fn counts_of_all(
     target: &OpenedArray,
 ) -> Result<Counts, AllocError>
     requires one_array { sizes_of source.now ≡ sizes_of target.now }
-    ensures { IfOk result (AreCountsOfAll (dimensions_of source.now)
-        (key_of source.now) (dimensions_of target.now)
-        (key_of target.now)) }
+    ensures { IfOk result (AreCountsOfAll (array_in source.now) (array_in target.now)) }
 {
     let chunks = all_chunks(alloc, &target.grid)?;
     match counts_of_rechunking(alloc, source, target, &chunks) {

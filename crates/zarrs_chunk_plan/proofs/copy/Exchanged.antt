@@ -1,13 +1,13 @@
 -- A rechunking the other way round has the same copies.
 use Rattle.zarrs_chunk_plan.proofs.Common.{◌≡◌, ◌↔◌, ◌⊎◌, ◌∙◌, ℕ, List, Contains, ap, IsTrue, subst, sym, arith, ⊎_elim, AllByRecursion, AllPairs}
 use Rattle.zarrs_chunk_plan.proofs.Common.{Box, IsInside, Dimension, InBox, IsChain, array_sizes, length_values, AreBelow, chunks_in, counted_from}
-use Rattle.zarrs_chunk_plan.proofs.Common.{same_box, are_those_inside, cover_meets, IsPart, Meets, AreCopiesInto, Group, IsRechunking, all_chunks_box}
+use Rattle.zarrs_chunk_plan.proofs.Common.{same_box, are_those_inside, IsPart, Meets, AreCopiesInto, Group, IsRechunking, all_chunks_box}
 use Rattle.zarrs_chunk_plan.proofs.Common.{array_box, copies_of, IsCopy, Part}
 use Rattle.zarrs_chunk_base.specs.Dimension.{IsOrigin, StartsAt}
 use Rattle.zarrs_chunk_base.proofs.InEach.{same_values}
 use Rattle.zarrs_chunk_plan.specs.Rechunking.{IsExchanged}
 use Rattle.zarrs_chunk_plan.proofs.copy.CopyLists.{Differ, copy_in, copy_of, pairs_follow}
-use Rattle.zarrs_chunk_plan.proofs.Plans.{added, all_long, chunk_of, counted_once, length_counted, not_empty, pair_of, part_of}
+use Rattle.zarrs_chunk_plan.proofs.Plans.{added, all_long, chunk_of, counted_once, length_counted, pair_of, part_of}
 use Rattle.zarrs_chunk_plan.proofs.copy.Regions.{differ_all}
 use Rattle.zarrs_chunk_plan.proofs.Rechunkings.{in_array, is_counted, read_there, shared_start, those_are}
 use Rattle.zarrs_chunk_plan.proofs.SameBoxes.{same_box_of}
@@ -31,18 +31,15 @@ pub record IsOf (source : List Dimension) (IsSourceKey : List ℕ → List ℕ �
   pub within : IsInside copy.1.in_subset index
 
 pub what_it_is_of : {source : List Dimension} {IsSourceKey : List ℕ → List ℕ → Type 0} {target : List Dimension}
-    {IsTargetKey : List ℕ → List ℕ → Type 0} {Chosen : List ℕ → Type 0} {groups : List Group} → AllByRecursion IsChain source
+    {IsTargetKey : List ℕ → List ℕ → Type 0} {Chosen : List ℕ → Type 0} {groups : List Group}
     → IsCopy source IsSourceKey target IsTargetKey (array_box target) (array_box target).start Chosen groups → (copy : Part × Part)
     → Contains (copies_of groups) copy → IsOf source IsSourceKey target IsTargetKey copy
-what_it_is_of {source} {target} {groups} chains plan copy among =
+what_it_is_of {groups} plan copy among =
     let (t, parts, counted, into, in_parts) = copy_of _ (chunks_in plan.targets) groups plan.are_groups copy among in
     let meets = ((plan.are_targets t).0 ((are_those_inside plan.targets plan.is_box t).0 counted)).1 in
     let read = read_there into meets in
     let (s, in_cover, is_from) = chunk_of read copy.0 in_parts in
-    let (index, box, within) =
-    (cover_meets source copy.1.in_subset read.cover chains into.to.boxes.from_subset.is_box (not_empty into.to meets) read.is_cover s).0
-    ((are_those_inside read.cover read.is_cover.is_box s).0 in_cover)
-    in
+    let (index, box, within) = (read.is_cover.named s).0 ((are_those_inside read.cover read.is_cover.is_box s).0 in_cover) in
     record { t = t; meets = meets; is_to = into.to; s = s; is_from = is_from; index = index; in_source = box; within = within }
 
 -- ---- the other way round
@@ -120,7 +117,7 @@ module _ (source : List Dimension) (IsSourceKey : List ℕ → List ℕ → Type
       → IsRechunking target IsTargetKey source IsSourceKey (all_chunks_box source) others → (copy : Part × Part) → Contains (copies_of groups) copy
       → (other : Part × Part) × Contains (copies_of others) other × IsExchanged copy other
   other_way_round chunks groups others plan back_plan copy among =
-      let of = what_it_is_of chains plan copy among in
+      let of = what_it_is_of plan copy among in
       let t = of.t in
       let s = of.s in
       let index = of.index in
@@ -134,10 +131,7 @@ module _ (source : List Dimension) (IsSourceKey : List ℕ → List ℕ → Type
       pair_of (AreCopiesInto target IsTargetKey source IsSourceKey) (chunks_in back_plan.targets) others back_plan.are_groups s in_targets in
       let there = (those_are gives.to also_meets index).1 (box, (both_arrays index).1 in_all) in
       let read = read_there gives also_meets in
-      let t_meets = (cover_meets target group.0.in_subset read.cover also_chains gives.to.boxes.from_subset.is_box (not_empty gives.to also_meets)
-      read.is_cover t).1 (index, also, there)
-      in
-      let (back, in_back, is_back) = part_of read t t_meets in (
+      let (back, in_back, is_back) = part_of read t ((read.is_cover.named t).1 (index, also, there)) in (
         (back, group.0),
         copy_in others group back in_groups in_back,
         exchanged s t copy.1 copy.0 group.0 back of.meets also_meets of.is_to of.is_from gives.to is_back index box of.within,
@@ -146,7 +140,7 @@ module _ (source : List Dimension) (IsSourceKey : List ℕ → List ℕ → Type
 -- ---- a part that is whole
 
 module _ (source : List Dimension) (IsSourceKey : List ℕ → List ℕ → Type 0) (target : List Dimension) (IsTargetKey : List ℕ → List ℕ → Type 0)
-    (chains : AllByRecursion IsChain source) (also_chains : AllByRecursion IsChain target) (one_array : array_sizes source ≡ array_sizes target)
+    (also_chains : AllByRecursion IsChain target) (one_array : array_sizes source ≡ array_sizes target)
     (chunks : Box) where
   -- each copy of the chunk is of the same chunk of the target
   whole_alone : (copy other : Part × Part) → IsOf source IsSourceKey target IsTargetKey copy
@@ -167,8 +161,8 @@ module _ (source : List Dimension) (IsSourceKey : List ℕ → List ℕ → Type
       pairs_follow Differ (λ copy other. copy.0.chunk.items ≡ other.0.chunk.items → IsTrue copy.0.whole ⊎ IsTrue other.0.whole → ⊥) (copies_of groups)
       (differ_all plan)
       (λ copy other among also differ same whole.
-      let of = what_it_is_of chains plan copy among in
-      let other_of = what_it_is_of chains plan other also in
+      let of = what_it_is_of plan copy among in
+      let other_of = what_it_is_of plan other also in
       let one_target = ⊎_elim (λ first. whole_alone copy other of other_of same first)
       (λ second. sym (whole_alone other copy other_of of (sym same) second)) whole
       in

@@ -2,11 +2,11 @@
 use Rattle.zarrs_chunk_plan.proofs.Common.{◌≡◌, ◌↔◌, ◌∙◌, ℕ, List, Contains, ap, arith, length, map, refl, subst, sym, ◌+◌, [], ◌∷◌, fold}
 use Rattle.zarrs_chunk_plan.proofs.Common.{length-append, max, ap₂, AllByRecursion, AllZip, sum, Box, IsBox, IsInside, Dimension, InBox, IsChain}
 use Rattle.zarrs_chunk_plan.proofs.Common.{array_sizes, AreBelow, chunks_in, counted_from, same_box, are_those_inside, lie_within, offset_of}
-use Rattle.zarrs_chunk_plan.proofs.Common.{counted_home, cover_meets, IsPart, Meets, Part, product, AreMany, array_box, Group, copies_of, AnyChunk}
+use Rattle.zarrs_chunk_plan.proofs.Common.{counted_home, IsPart, Meets, Part, product, AreMany, array_box, Group, copies_of, AnyChunk}
 use Rattle.zarrs_chunk_plan.proofs.Common.{AreMovedInto, CanBeMoved, IsCopy, MovesTo, moved, shifted, counters, met_in, met_by, length-map}
 use Rattle.zarrs_chunk_plan.proofs.Common.{sum_by-cons, AllZip-long}
 use Rattle.zarrs_chunk_plan.specs.Counts.{AreCopyCounts, AreFew}
-use Rattle.zarrs_chunk_plan.specs.Region.{AreTargets, Group, copies_of}
+use Rattle.zarrs_chunk_plan.specs.Region.{AreTargets, IsDestination}
 use Rattle.zarrs_chunk_plan.specs.declared.counts.of_plans.Counts.{Counts}
 use Rattle.zarrs_chunk_plan.specs.seen.Sources.{AreTaking}
 use Rattle.zarrs_chunk_plan.specs.seen.TargetCounts.{AreTargetCounts, met_by_each}
@@ -15,7 +15,8 @@ use Rattle.zarrs_chunk_plan.proofs.counts.MetCovers.{as_many_counters, met_of_co
 use Rattle.zarrs_chunk_plan.proofs.MovedBoxes.{can_stay, within_below}
 use Rattle.zarrs_chunk_plan.proofs.Plans.{all_of_each, chunk_of, not_empty, takes}
 use Rattle.zarrs_chunk_plan.proofs.counts.Products.{met_by_all, sum_of_products}
-use Rattle.zarrs_chunk_plan.proofs.Rechunkings.{same_place}
+use Rattle.zarrs_chunk_plan.proofs.Rechunkings.{at_home}
+use Rattle.zarrs_chunk_plan.proofs.SomePlan.{is_cover_of}
 use Rattle.zarrs_chunk_plan.proofs.copy.Regions.{is_copy_of, moves_only, moves_region, read_is_box, some_copy}
 use Rattle.zarrs_chunk_plan.proofs.SameBoxes.{chunks_of_same}
 use Rattle.std.proofs.lemmas.List.Concat.{flat_map-cons}
@@ -52,19 +53,17 @@ are_taking source target targets one_array is_array =
 -- the element of the source goes into one of these chunks
 abbrev pub IsTaken : (target : List Dimension) (region : Box) (at : List ℕ) (targets : Box) (index : List ℕ) → Type 0
 IsTaken target region at targets index =
-    (place : List ℕ) × AreBelow region.shape place × (index ≡ counted_from region.start place)
-    × ((chunk : List ℕ) × IsInside targets chunk × InBox target chunk (counted_from at place))
+    (to : List ℕ) × IsDestination region at index to × ((chunk : List ℕ) × IsInside targets chunk × InBox target chunk to)
 
 -- of the whole array, where it stays, those that the chunks hold
 pub held_taken : (target : List Dimension) (targets : Box) (index : List ℕ)
     → (AreBelow (array_sizes target) index × ((chunk : List ℕ) × IsInside targets chunk × InBox target chunk index))
     ↔ IsTaken target (array_box target) (array_box target).start targets index
 held_taken target targets index = (
-  λ (below, (chunk, inside, box)).
-      let same = same_place target index below in (index, below, sym same, (chunk, inside, subst (InBox target chunk) (sym same) box)),
-  λ (place, below, is, (chunk, inside, box)).
-      let same = is ∙ same_place target place below in
-      (subst (AreBelow (array_sizes target)) (sym same) below, (chunk, inside, subst (InBox target chunk) (sym is) box)),
+  λ (below, held). (index, (at_home target index index).1 (below, refl), held),
+  λ (to, there, (chunk, inside, box)).
+      let (below, same) = (at_home target index to).0 there in
+      (below, (chunk, inside, subst (InBox target chunk) (sym same) box)),
 )
 
 -- a property that holds of the same lists as another holds of as many
@@ -93,6 +92,11 @@ copies_of_all (group ∷ groups) =
 module _ {source target : List Dimension} {region : Box} {at : List ℕ} (chains : AllByRecursion IsChain source) {targets : Box}
     (taking : AreTaking source target region (moved at region) targets) (Chosen : List ℕ → Type 0)
     (are_targets : AreTargets target (moved at region) Chosen targets) where
+  -- what goes somewhere is an element of the region
+  taken_inside : IsBox region → {index to : List ℕ} → IsDestination region at index to → IsInside region index
+  taken_inside is_region there =
+      subst (IsInside region) (sym there.from) (lie_within region.start region.shape there.behind is_region.lengths there.below)
+
   -- where all chunks are chosen, each element of the region goes into one
   pub all_taken : AllByRecursion IsChain target → IsBox region → ((chunk : List ℕ) → Chosen chunk) → (index : List ℕ)
       → IsInside region index ↔ IsTaken target region at targets index
@@ -100,15 +104,17 @@ module _ {source target : List Dimension} {region : Box} {at : List ℕ} (chains
     λ inside.
         let (place, below, counts) = offset_of region.start region.shape index inside in
         let there = lie_within at region.shape place taking.is_moved.lengths below in
-        let (chunk, _, box) = counted_home target (counted_from at place) also_chains
-        (within_below at region.shape (array_sizes target) (counted_from at place) taking.in_target there)
-        in
-        (place, below, sym counts, (chunk, (are_targets chunk).1 (any chunk, (counted_from at place, box, there)), box)),
-    λ (place, below, is, _). subst (IsInside region) (sym is) (lie_within region.start region.shape place is_region.lengths below),
+        let to = counted_from at place in
+        let (chunk, _, box) = counted_home target to also_chains (within_below at region.shape (array_sizes target) to taking.in_target there) in (
+          to,
+          record { behind = place; below = below; from = sym counts; into = refl },
+          (chunk, (are_targets chunk).1 (any chunk, (to, box, there)), box),
+        ),
+    λ (_, there, _). taken_inside is_region there,
   )
 
   module _ {IsSourceKey IsTargetKey : List ℕ → List ℕ → Type 0} {groups : List Group}
-      (plan : IsCopy source IsSourceKey target IsTargetKey region at Chosen groups) where
+      (plan : IsCopy source IsSourceKey target IsTargetKey region at Chosen groups) (is_region : IsBox region) where
     abbrev Into : List ℕ → Group → Type 0
     Into = AreMovedInto source IsSourceKey target IsTargetKey region at
 
@@ -134,7 +140,10 @@ module _ {source target : List Dimension} {region : Box} {at : List ℕ} (chains
         → length group.1 ≡ product (met_by met_with chunk)
     copies_into chunk group meets into =
         let read = into.from in
-        let met = met_of_cover chains taking chunk group.0.in_chunk group.0.in_subset read.cover meets into.to.boxes read.is_cover in
+        let cover = is_cover_of source chains (shifted region.start group.0.in_subset) read.cover (read_is_box region into.to is_region meets)
+        (not_empty into.to meets) read.is_cover
+        in
+        let met = met_of_cover chains taking chunk group.0.in_chunk group.0.in_subset read.cover meets into.to.boxes cover in
         AllZip-long (IsPart source IsSourceKey (shifted region.start group.0.in_subset)) (chunks_in read.cover) group.1 read.are_parts
         ∙ in_box_many read.cover ∙ ap product met
 
@@ -159,66 +168,53 @@ module _ {source target : List Dimension} {region : Box} {at : List ℕ} (chains
         ∙ ap sum (met_by_all met_with targets.start targets.shape (omega (arith, taking.long, many)) (omega (arith, taking.long, many, is_box.lengths)))
         ∙ sum_of_products (met_in met_with targets.start targets.shape)
 
-    module _ (is_region : IsBox region) where
-      -- an element that goes into a chunk is moved by some copy
-      moved_by : (index : List ℕ) → IsTaken target region at targets index
-          → (copy : Part × Part) × Contains (copies_of groups) copy
-          × ((steps : List ℕ) × (to : List ℕ) × MovesTo source target copy steps index to)
-      moved_by index (place, below, is, (chunk, inside, box)) =
-          let (copy, among, (steps, moves)) = some_copy over chains taking.is_moved.lengths
-          (λ chunk to part meets. read_is_box region part is_region meets) place chunk below inside box
-          in
-          (copy, among, (steps, counted_from at place, subst (λ x. MovesTo source target copy steps x (counted_from at place)) (sym is) moves))
+    -- an element that goes into a chunk is moved by some copy
+    moved_by : (index : List ℕ) → IsTaken target region at targets index
+        → (copy : Part × Part) × Contains (copies_of groups) copy
+        × ((steps : List ℕ) × (to : List ℕ) × MovesTo source target copy steps index to)
+    moved_by index (to, there, (chunk, inside, box)) =
+        let (copy, among, (steps, moves)) = some_copy over index to chunk there box ((are_targets chunk).0 inside).0 in
+        (copy, among, (steps, to, moves))
 
-      -- and only such an element is
-      is_taken : (copy : Part × Part) → Contains (copies_of groups) copy → (steps index to : List ℕ) → MovesTo source target copy steps index to
-          → IsTaken target region at targets index
-      is_taken copy among steps index to moves =
-          let of = is_copy_of over copy among in
-          let (place, below, is, to_is) = moves_only over copy among steps index to moves in
-          let box = subst (InBox target copy.1.chunk.items) to_is moves.in_target in
-          (place, below, is, (of.chunk, of.inside, subst (λ c. InBox target c (counted_from at place)) of.to.numbers box))
+    -- and only such an element is
+    is_taken : (copy : Part × Part) → Contains (copies_of groups) copy → (steps index to : List ℕ) → MovesTo source target copy steps index to
+        → IsTaken target region at targets index
+    is_taken copy among steps index to moves =
+        let of = is_copy_of over copy among in
+        (to, moves_only over copy among steps index to moves, (of.chunk, of.inside, subst (λ c. InBox target c to) of.to.numbers moves.in_target))
 
-      -- a chunk that is read holds one
-      read_from : (copy : Part × Part) → Contains (copies_of groups) copy
-          → (index : List ℕ) × InBox source copy.0.chunk.items index × IsTaken target region at targets index
-      read_from copy among =
-          let (chunk, parts, counted, into, in_parts) = copy_of Into (chunks_in targets) groups are_groups copy among in
-          let meets = taking.meet chunk ((are_those_inside targets taking.is_box chunk).0 counted) in
-          let cover = into.from.cover in
-          let (s, in_cover, is_from) = chunk_of into.from copy.0 in_parts in
-          let (index, box, inside) =
-          (cover_meets source (shifted region.start copy.1.in_subset) cover chains (read_is_box region into.to is_region meets) (not_empty into.to meets)
-          into.from.is_cover s).0 ((are_those_inside cover into.from.is_cover.is_box s).0 in_cover)
-          in
-          let (_, has) = takes is_from index (box, inside) in
-          let (place, below, moves) = moves_region over copy among has.steps has.below in
-          let from = counted_from region.start place in
-          (from, moves.in_source, is_taken copy among has.steps from (counted_from at place) moves)
+    -- a chunk that is read holds one
+    read_from : (copy : Part × Part) → Contains (copies_of groups) copy
+        → (index : List ℕ) × InBox source copy.0.chunk.items index × IsTaken target region at targets index
+    read_from copy among =
+        let (_, parts, _, into, in_parts) = copy_of Into (chunks_in targets) groups are_groups copy among in
+        let cover = into.from.cover in
+        let (s, in_cover, is_from) = chunk_of into.from copy.0 in_parts in
+        let (index, box, inside) = (into.from.is_cover.named s).0 ((are_those_inside cover into.from.is_cover.is_box s).0 in_cover) in
+        let (_, has) = takes is_from index (box, inside) in
+        let (from, to, _, moves) = moves_region over copy among has.steps has.below in
+        (from, moves.in_source, is_taken copy among has.steps from to moves)
 
-      pub counts_are : (elements : Box) (counts : Counts) → ((index : List ℕ) → IsInside elements index ↔ IsTaken target region at targets index)
-          → AreTargetCounts source met_with elements targets counts → AreCopyCounts source target region targets groups counts
-      counts_are elements counts taken are = record {
-        lines = ap product are.lines ∙ sym (in_box_many targets) ∙ sym (AllZip-long Into (chunks_in targets) groups are_groups);
-        copies = subst (λ n. MatchOption counts.copies (¬ AreFew targets) (λ factors. product factors.items ≡ n))
-            (ap sum (sym lengths) ∙ sym (copies_of_all groups)) are.copies;
-        largest_line = subst (λ n. MatchOption counts.largest_line (¬ AreFew targets) (λ factors. product factors.items ≡ n))
-            (ap (fold max 0) (sym lengths)) are.largest_line;
-        elements = many_same (IsInside elements) _ (product counts.elements.items)
-            (λ index. (
-              λ inside.
-                  let here = (taken index).0 inside in
-                  let (place, below, is, _) = here in
-                  (subst (IsInside region) (sym is) (lie_within region.start region.shape place is_region.lengths below), moved_by index here),
-              λ (_, (copy, among, (steps, to, moves))). (taken index).1 (is_taken copy among steps index to moves),
-            )) are.elements;
-        source_chunks = many_same (Meets source elements) _ (product counts.source_chunks.items)
-            (λ chunk. (
-              λ (index, box, inside).
-                  let (copy, among, (steps, to, moves)) = moved_by index ((taken index).0 inside) in
-                  (copy, among, same_box source copy.0.chunk.items chunk index chains moves.in_source box),
-              λ (copy, among, same).
-                  let (index, box, here) = read_from copy among in
-                  subst (Meets source elements) same (index, box, (taken index).1 here),
-            )) are.source_chunks;
-      }
+    pub counts_are : (elements : Box) (counts : Counts) → ((index : List ℕ) → IsInside elements index ↔ IsTaken target region at targets index)
+        → AreTargetCounts source met_with elements targets counts → AreCopyCounts source target region targets groups counts
+    counts_are elements counts taken are = record {
+      lines = ap product are.lines ∙ sym (in_box_many targets) ∙ sym (AllZip-long Into (chunks_in targets) groups are_groups);
+      copies = subst (λ n. MatchOption counts.copies (¬ AreFew targets) (λ factors. product factors.items ≡ n))
+          (ap sum (sym lengths) ∙ sym (copies_of_all groups)) are.copies;
+      largest_line = subst (λ n. MatchOption counts.largest_line (¬ AreFew targets) (λ factors. product factors.items ≡ n))
+          (ap (fold max 0) (sym lengths)) are.largest_line;
+      elements = many_same (IsInside elements) _ (product counts.elements.items)
+          (λ index. (
+            λ inside. let here = (taken index).0 inside in (taken_inside is_region here.1, moved_by index here),
+            λ (_, (copy, among, (steps, to, moves))). (taken index).1 (is_taken copy among steps index to moves),
+          )) are.elements;
+      source_chunks = many_same (Meets source elements) _ (product counts.source_chunks.items)
+          (λ chunk. (
+            λ (index, box, inside).
+                let (copy, among, (steps, to, moves)) = moved_by index ((taken index).0 inside) in
+                (copy, among, same_box source copy.0.chunk.items chunk index chains moves.in_source box),
+            λ (copy, among, same).
+                let (index, box, here) = read_from copy among in
+                subst (Meets source elements) same (index, box, (taken index).1 here),
+          )) are.source_chunks;
+    }

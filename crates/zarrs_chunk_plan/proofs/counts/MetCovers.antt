@@ -5,11 +5,10 @@ use Rattle.zarrs_chunk_plan.proofs.Common.{within_lengths, length_values, AreBel
 use Rattle.zarrs_chunk_plan.proofs.Common.{met_by, met_by_range, met_in}
 use Rattle.zarrs_chunk_parts.specs.Plan.{AreShared}
 use Rattle.zarrs_chunk_plan.specs.seen.Sources.{AreTaking, taken_box, taken_sizes, taken_starts}
-use Rattle.zarrs_chunk_plan.proofs.BoxCover.{none_below}
 use Rattle.zarrs_chunk_plan.proofs.counts.MetChunks.{cover_sizes, met_along_each, meets_take, shares_met, taken_common}
 use Rattle.zarrs_chunk_plan.proofs.MovedBoxes.{within_long, within_starts}
 use Rattle.zarrs_chunk_plan.proofs.counts.OneDimension.{OfRanges, ranges_at, row_has}
-use Rattle.zarrs_chunk_plan.proofs.Plans.{not_empty_if_inside}
+use Rattle.zarrs_chunk_plan.proofs.Plans.{none_below, not_empty_if_inside}
 use Rattle.zarrs_chunk_plan.proofs.SameBoxes.{same_box_of}
 use Rattle.zarrs_chunk_plan.proofs.counts.Written.{counters_long, ranges_take}
 

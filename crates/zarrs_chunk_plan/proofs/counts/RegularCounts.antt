@@ -5,7 +5,7 @@ use Rattle.zarrs_chunk_plan.proofs.Common.{cases_lt, sum_by-cons}
 use Rattle.std.proofs.Common.{nat_cmp}
 use Rattle.std.specs.Ordering.{ord_max}
 use Rattle.zarrs_chunk_plan.specs.seen.RegularCounts.{meeting}
-use Rattle.std.proofs.Math.Nat.{div-eq_of_lt-le, mod-add-div', mul-suc}
+use Rattle.std.proofs.Math.Nat.{div-eq_of_lt-le, div-mul-le_self, mod-add-div', mul-suc}
 use Rattle.std.proofs.lemmas.List.FromFn.{length-map-range_with_len}
 use Rattle.std.proofs.lemmas.Nat.{le-div}
 
@@ -67,12 +67,7 @@ rises a n (suc k) some =
 
 -- and it never falls
 pub keeps : (a n k : ℕ) → 0 < a → n / a ≤ (n + k) / a
-keeps a n zero some = let same : (n + 0) / a ≡ n / a = ap (λ m. m / a) (omega arith) in omega arith
-keeps a n (suc k) some =
-    let before = keeps a n k some in
-    let is : (n + suc k) / a ≡ suc (n + k) / a = ap (λ m. m / a) (omega arith) in
-    ⊎_elim (λ (left : 0 < suc (n + k) % a). let s = stays a (n + k) some left in omega arith)
-    (λ (le : suc (n + k) % a ≤ 0). let s = grows a (n + k) some (omega arith) in omega arith) (cases_lt 0 (suc (n + k) % a))
+keeps a n k some = le-div (n / a) (n + k) a some (let low = div-mul-le_self n a in omega arith)
 
 -- the quotient of a sum is the sum of the quotients, or one more
 pub of_sum : (a x y : ℕ) → 0 < a → (x / a + y / a ≤ (x + y) / a) × ((x + y) / a ≤ suc (x / a + y / a))

@@ -1,4 +1,4 @@
--- A choice that takes the fewest reads is the shape of an array between by which two stages do.
+-- A choice that takes the fewest reads is the shape of an intermediate array by which two stages do.
 use Rattle.zarrs_chunk_plan.proofs.Common.{◌≡◌, ◌↔◌, ◌∙◌, ℕ, ◌+◌, ◌-◌, ◌<◌, ◌≤◌, ◌^◌, List, [], ◌∷◌, ◌++◌, Contains, Global, IfSome, MatchOption}
 use Rattle.zarrs_chunk_plan.proofs.Common.{None, Option, Some, Vec, length, map, max, min, ap, ap₂, arith, refl, replicate, subst, sym, ⊎_elim}
 use Rattle.zarrs_chunk_plan.proofs.Common.{length-map, length-replicate, map-append, reverse-append, same_Some, AllZip-long, non_zero_u64_get}
@@ -13,6 +13,7 @@ use Rattle.std.specs.declared.num.NonZeroU64.{NonZeroU64}
 use Rattle.zarrs_chunk_base.specs.Dimension.{HasEdge}
 use Rattle.zarrs_chunk_axes.specs.RowMajor.{IsBefore}
 use Rattle.zarrs_chunk_plan.specs.Stages.{AnyKey, AreStages, FindsShape, Fits, IsChosen, IsLargest, IsTried}
+unfoldable use Rattle.zarrs_chunk_plan.specs.Stages.{bound_for}
 use Rattle.zarrs_chunk_plan.specs.declared.two_stages.fewest.Chosen.{Chosen}
 use Rattle.zarrs_chunk_plan.specs.seen.Stages.{AllAscend, AreRows, IsFewest, held, reads_of}
 use Rattle.zarrs_chunk_plan.proofs.two_stages.EdgesTried.{only_ones, tried_long}
@@ -232,10 +233,17 @@ module _ (source target : List Dimension) (chains : AllByRecursion IsChain sourc
       }
 
   -- what is found is the shape that is chosen
-  pub finds : (found : Option Chosen) (shape : Option (Vec NonZeroU64 Global)) → FindsFewest rows room 1 1 found
-      → option_map (λ v. v.items) shape ≡ option_map (λ chosen. reverse chosen.edges.items) found
-      → FindsShape source target most (option_map (λ v. map non_zero_u64_get v.items) shape)
-  finds found shape best same = record { largest = largest; is_largest = is_largest; other = other; is_other = is_other; few = few; finds = told_shape found shape best same }
+  pub finds : (asked : ℕ) → most ≡ bound_for (array_sizes source) asked → (found : Option Chosen) (shape : Option (Vec NonZeroU64 Global))
+      → FindsFewest rows room 1 1 found → option_map (λ v. v.items) shape ≡ option_map (λ chosen. reverse chosen.edges.items) found
+      → FindsShape source target asked (option_map (λ v. map non_zero_u64_get v.items) shape)
+  finds asked is found shape best same = record {
+    largest = largest;
+    is_largest = is_largest;
+    other = other;
+    is_other = is_other;
+    few = few;
+    finds = rw (← is) (told_shape found shape best same);
+  }
     where
       told_shape : (found : Option Chosen) (shape : Option (Vec NonZeroU64 Global)) → FindsFewest rows room 1 1 found
           → option_map (λ v. v.items) shape ≡ option_map (λ chosen. reverse chosen.edges.items) found

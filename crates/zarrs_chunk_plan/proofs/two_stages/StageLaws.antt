@@ -1,10 +1,17 @@
 -- Two rechunkings, the second of what the first one leaves, are together one.
-use Rattle.zarrs_chunk_plan.proofs.Common.{◌≡◌, ◌∙◌, ℕ, List, [], ◌∷◌, Contains, ap₂, refl, subst, sym, arith, AllByRecursion, Box, Dimension}
+use Rattle.zarrs_chunk_plan.proofs.Common.{◌≡◌, ◌∙◌, ℕ, ◌+◌, ◌<◌, List, [], ◌∷◌, Contains, ap₂, length, refl, subst, sym, arith, AllByRecursion, Box, IsBox, IsInside, Dimension, InBox}
 use Rattle.zarrs_chunk_plan.proofs.Common.{IsChain, IsPlace, array_sizes, AreBelow, counted_from, same_box, counted_home, Group, IsRechunking}
 use Rattle.zarrs_chunk_plan.proofs.Common.{all_chunks_box, array_box, copies_of, IsCopy, Part}
-use Rattle.zarrs_chunks.proofs.Boxes.{same_index}
-use Rattle.zarrs_chunk_plan.specs.Rechunking.{Goes, Moves}
-use Rattle.zarrs_chunk_plan.proofs.Rechunkings.{in_array, is_counted, keys_of_copy, moves_elements, some_copy_into}
+use Rattle.zarrs_chunk_axes.specs.EqualEdges.{AreEqualEdges}
+use Rattle.zarrs_chunk_axes.specs.seen.EqualAxis.{equal_edges, equal_from}
+use Rattle.zarrs_chunk_plan.specs.Rechunking.{AreTargets, Goes, Moves}
+use Rattle.zarrs_chunk_plan.specs.Stages.{AnyKey, AreStages}
+use Rattle.zarrs_chunk_plan.specs.seen.Parts.{HasKeys}
+use Rattle.zarrs_chunk_plan.proofs.copy.Regions.{has_keys, moves_only, some_copy}
+use Rattle.zarrs_chunk_plan.proofs.Rechunkings.{at_home, in_array, is_counted}
+use Rattle.zarrs_chunk_plan.proofs.SomePlan.{array_homes, covers_all}
+use Rattle.zarrs_chunk_plan.proofs.SomeRegions.{have_rechunking}
+use Rattle.zarrs_chunk_plan.proofs.two_stages.EqualChunks.{are_chains, one_box, sizes_are}
 
 -- an index has one place in a chunk
 one_place : (ds : List Dimension) (chunk index one other : List ℕ) → IsPlace ds chunk index one → IsPlace ds chunk index other → one ≡ other
@@ -54,9 +61,15 @@ moved_below : {source : List Dimension} {IsSourceKey : List ℕ → List ℕ →
     {Chosen : List ℕ → Type 0} {groups : List Group}
     → IsCopy source IsSourceKey target IsTargetKey (array_box target) (array_box target).start Chosen groups → (copy : Part × Part)
     → Contains (copies_of groups) copy → (steps index : List ℕ) → Moves source target copy steps index → AreBelow (array_sizes target) index
-moved_below {source} {target} plan copy among steps index moved =
-    let (other, below, again) = moves_elements plan copy among steps moved.below in
-    subst (AreBelow (array_sizes target)) (same_index source copy.0.chunk.items other index _ again.from moved.from) below
+moved_below {target} plan copy among steps index moved = ((at_home target index index).0 (moves_only plan copy among steps index index moved)).0
+
+-- one that goes into a chosen chunk is moved
+copied : {source : List Dimension} {IsSourceKey : List ℕ → List ℕ → Type 0} {target : List Dimension} {IsTargetKey : List ℕ → List ℕ → Type 0}
+    {Chosen : List ℕ → Type 0} {groups : List Group}
+    → IsCopy source IsSourceKey target IsTargetKey (array_box target) (array_box target).start Chosen groups → (index chunk : List ℕ)
+    → AreBelow (array_sizes target) index → InBox target chunk index → Chosen chunk
+    → (copy : Part × Part) × Contains (copies_of groups) copy × ((steps : List ℕ) × Moves source target copy steps index)
+copied {target} plan index chunk below = some_copy plan index index chunk ((at_home target index index).1 (below, refl))
 
 -- ---- two stages
 
@@ -75,9 +88,9 @@ module _ {source : List Dimension} {IsSourceKey : List ℕ → List ℕ → Type
       let below_between = subst (λ sizes. AreBelow sizes index) (sym one_array) below in
       let (m, _, box) = counted_home between index chains_between below_between in
       let inside = is_counted between chains_between m (index, box, (in_array between index).0 below_between) in
-      let (one, among, (a, moved)) = some_copy_into is_first chains index m below_between box inside in
-      let (_, _, asked) = keys_of_copy is_one goes.copy goes.among in
-      let (next, among_next, (b, moved_next)) = some_copy_into is_second chains_between index goes.copy.1.chunk.items below goes.moves.in_target asked in
+      let (one, among, (a, moved)) = copied is_first index m below_between box inside in
+      let (_, _, asked) = has_keys is_one goes.copy goes.among in
+      let (next, among_next, (b, moved_next)) = copied is_second index goes.copy.1.chunk.items below goes.moves.in_target asked in
       let from_there = same_from source between chains chains_between one goes.copy a goes.steps index target moved goes.moves in
       let there = same_between between target chains_between also_chains one next a b index source moved moved_next in
       let to_there = same_to between target chains_between also_chains next goes.copy b goes.steps index source moved_next goes.moves in (
@@ -110,8 +123,8 @@ module _ {source : List Dimension} {IsSourceKey : List ℕ → List ℕ → Type
       → Goes source target groups index s from t to
   in_one chunk place goes next =
       let below = moved_below is_second next.copy next.among next.steps index next.moves in
-      let (_, _, asked) = keys_of_copy is_second next.copy next.among in
-      let (one, among, (a, moved)) = some_copy_into is_one chains index next.copy.1.chunk.items below next.moves.in_target asked in
+      let (_, _, asked) = has_keys is_second next.copy next.among in
+      let (one, among, (a, moved)) = copied is_one index next.copy.1.chunk.items below next.moves.in_target asked in
       let from_there = same_from source target chains also_chains one goes.copy a goes.steps index between moved goes.moves in
       let to_there = same_to source target chains also_chains one next.copy a next.steps index between moved next.moves in
       record {
@@ -124,3 +137,56 @@ module _ {source : List Dimension} {IsSourceKey : List ℕ → List ℕ → Type
         into_chunk = to_there.0 ∙ next.into_chunk;
         into_place = to_there.1 ∙ next.into_place;
       }
+
+-- ---- there are two
+
+-- the chunks that hold elements of the array are a box of those that are counted
+array_targets : (ds : List Dimension) → AllByRecursion IsChain ds → IsBox (array_box ds)
+    → (targets : Box) × IsBox targets × AreTargets ds (array_box ds) (IsInside (all_chunks_box ds)) targets
+array_targets ds chains is_array =
+    let (cover, covers) = covers_all ds chains (array_box ds) is_array
+    (array_homes ds chains (array_box ds) (λ index. (in_array ds index).1))
+    in (
+      cover,
+      covers.is_box,
+      λ chunk. (
+        λ inside. let meets = (covers.named chunk).0 inside in (is_counted ds chains chunk meets, meets),
+        λ (_, meets). (covers.named chunk).1 meets,
+      ),
+    )
+
+equal_dimensions : (sizes edges : List ℕ) → length edges ≡ length sizes → AllByRecursion (λ e. 0 < e) edges
+    → (ds : List Dimension) × AreEqualEdges ds sizes edges
+equal_dimensions [] [] same some = ([], tt)
+equal_dimensions (n ∷ sizes) (e ∷ edges) same some =
+    let (ds, are) = equal_dimensions sizes edges (omega arith) some.1 in (equal_from n e ∷ ds, (equal_edges n e some.0, are))
+equal_dimensions _ _ same some = absurd (omega arith)
+
+any_keys : HasKeys AnyKey
+any_keys chunk fits = ([], tt)
+
+pub have_stages : (source target : List Dimension) → AllByRecursion IsChain source → AllByRecursion IsChain target
+    → array_sizes source ≡ array_sizes target → IsBox (array_box target) → (shape : List ℕ) → length shape ≡ length (array_sizes source)
+    → AllByRecursion (λ e. 0 < e) shape → (reads : ℕ) × AreStages source target shape reads
+have_stages source target chains also_chains one_array is_array shape long some =
+    let (between, are) = equal_dimensions (array_sizes source) shape long some in
+    let sizes = sizes_are between (array_sizes source) shape are in
+    let between_chains = are_chains between (array_sizes source) shape are some in
+    let is_between = subst IsBox (sym (one_box between target (sizes ∙ one_array))) is_array in
+    let (targets, is_box, named) = array_targets between between_chains is_between in
+    let (first, is_first) = have_rechunking source AnyKey between AnyKey chains between_chains any_keys any_keys (sym sizes) is_between
+    (all_chunks_box between) targets is_box named in
+    let (last, is_last, last_named) = array_targets target also_chains is_array in
+    let (second, is_second) = have_rechunking between AnyKey target AnyKey between_chains also_chains any_keys any_keys (sizes ∙ one_array) is_array
+    (all_chunks_box target) last is_last last_named in (
+      length (copies_of first) + length (copies_of second),
+      record {
+        between = between;
+        chunks = are;
+        first = first;
+        is_first = is_first;
+        second = second;
+        is_second = is_second;
+        in_all = refl;
+      },
+    )

@@ -223,7 +223,7 @@ module _ (source target : List Dimension) (chains : AllByRecursion IsChain sourc
         let is_all = subst IsBox (same_box_of plan.targets all first ((same first).1 (is_counted between between_chains first meets)) same) plan.is_box in
         let taking = are_taking source between all (sym sizes) (subst IsBox (sym between_box) is_array) is_all (length-replicate (length between) 0) meet in
         copies_many chains taking (IsInside all) (λ chunk. (λ inside. (inside, meet chunk inside), λ both. both.0)) plan
-        ∙ ap product (sym (firsts_are source target between chunks.shape choice chosen are))
+        (subst IsBox (sym between_box) is_array) ∙ ap product (sym (firsts_are source target between chunks.shape choice chosen are))
 
     second_many : (groups : List Group) → IsRechunking between AnyKey target AnyKey (all_chunks_box target) groups
         → length (copies_of groups) ≡ product (map (λ (e : Edge). e.second) choice)
@@ -232,7 +232,7 @@ module _ (source target : List Dimension) (chains : AllByRecursion IsChain sourc
         let taking = are_taking between target chunks (sizes ∙ one_array) is_array is_box long (λ chunk. (named chunk).0) in
         let counts = counters between target (array_box target) (array_box target) in
         copies_many between_chains taking (IsInside (all_chunks_box target))
-        (λ chunk. (λ inside. let meets = (named chunk).0 inside in (is_counted target target_chains chunk meets, meets), λ both. (named chunk).1 both.1)) plan
+        (λ chunk. (λ inside. let meets = (named chunk).0 inside in (is_counted target target_chains chunk meets, meets), λ both. (named chunk).1 both.1)) plan is_array
         ∙ ap (λ first. product (map sum (met_in counts first chunks.shape))) start
         ∙ ap product (sym (seconds_are source target between chunks.shape choice one_array chosen are))
 

@@ -1,12 +1,11 @@
 -- What is left of a walk over the changes of a resize.
-use Rattle.std.specs.Prelude.{◌≡◌, ◌≢◌, ◌↔◌, ℕ, Bool, true, false, List, [], ◌++◌, Option, Some, None, Result, Ok, Err, drop}
+use Rattle.std.specs.Prelude.{◌≡◌, ◌≢◌, ℕ, Bool, true, false, List, [], ◌++◌, Option, Some, None, Result, Ok, Err, drop}
 use Rattle.std.specs.List.{AllZip}
 use Rattle.std.specs.declared.alloc.AllocError.{AllocError}
 use Rattle.zarrs_chunk_base.specs.Dimension.{Dimension}
-use Rattle.zarrs_chunk_axes.specs.InBounds.{AreBelow}
 use Rattle.zarrs_chunks.specs.Walks.{Gives}
 use Rattle.zarrs_chunk_plan.specs.Rechunking.{array_box}
-use Rattle.zarrs_chunk_plan.specs.Resize.{IsChange, IsKept, IsUsed}
+use Rattle.zarrs_chunk_plan.specs.Resize.{AreChangedChunks, IsChange}
 use Rattle.zarrs_chunk_plan.specs.declared.resize.chunk_changes.Changes.{Changes}
 use Rattle.zarrs_chunk_plan.specs.declared.resize.plan.Change.{Change}
 use Rattle.zarrs_chunk_plan.specs.declared.resize.plan.Change.TheVariants.{Delete, Keep, New, Rewrite}
@@ -43,10 +42,7 @@ module _ {G H E : Type 0} where
   pub record CanChange (dimensions_before : G → List Dimension) (dimensions_after : H → List Dimension) (walk : Changes G H E) : Type 0 where
     pub array_before : walk.array_before ≡ array_box (dimensions_before walk.before.now)
     pub array_after : walk.array_after ≡ array_box (dimensions_after walk.after.now)
-    pub used_before : (chunk : List ℕ) → AreBelow walk.uses.before.items chunk ↔ IsUsed (dimensions_before walk.before.now) chunk
-    pub used_after : (chunk : List ℕ) → AreBelow walk.uses.after.items chunk ↔ IsUsed (dimensions_after walk.after.now) chunk
-    pub kept : (chunk : List ℕ)
-        → AreBelow walk.uses.kept.items chunk ↔ IsKept (dimensions_before walk.before.now) (dimensions_after walk.after.now) chunk
+    pub changed : AreChangedChunks (dimensions_before walk.before.now) (dimensions_after walk.after.now) walk.uses
 
 -- the changes that the walk has to give: one for each chunk to come
 abbrev pub AreChangesToCome : {G H E : Type 0} → (G → List Dimension) → (H → List Dimension) → (E → List ℕ → List ℕ → Type 0) → Changes G H E

@@ -5,8 +5,7 @@ use Rattle.std.specs.declared.alloc.AllocError.{AllocError}
 use Rattle.zarrs_chunk_base.specs.ArraySubset.{Box}
 use Rattle.zarrs_chunk_base.specs.Dimension.{Dimension, array_sizes}
 use Rattle.zarrs_chunk_base.specs.Refusal.{TellsLengths}
-use Rattle.zarrs_chunks.specs.Subsets.{IsCover}
-use Rattle.zarrs_chunks.specs.Walks.{Gives, chunks_in}
+use Rattle.zarrs_chunks.specs.Walks.{Gives}
 use Rattle.zarrs_chunk_parts.specs.Plan.{IsPart}
 use Rattle.zarrs_chunk_plan.specs.Region.{AreMovedInto, Group, LiesIn, shifted}
 use Rattle.zarrs_chunk_plan.specs.declared.copy.chunk_copies.ChunkCopies.{ChunkCopies}
@@ -14,8 +13,7 @@ use Rattle.zarrs_chunk_plan.specs.declared.copy.chunk_copies.Copies.{Copies}
 use Rattle.zarrs_chunk_plan.specs.declared.copy.copies_error.CopiesError.{CopiesError}
 use Rattle.zarrs_chunk_plan.specs.declared.copy.copies_error.CopiesError.TheVariants.{ArrayShapes, Chunks}
 use Rattle.zarrs_chunk_plan.specs.declared.stored_array.StoredArray.{StoredArray}
-use Rattle.zarrs_chunk_plan.specs.declared.read.walk.Parts.{Parts}
-use Rattle.zarrs_chunk_plan.specs.seen.Parts.{ArePartsToCome, IsAbout, MeetSubset, all_chunks, chunks_to_come, offsets_to_come}
+use Rattle.zarrs_chunk_plan.specs.seen.Parts.{ArePartsToCome, IsAbout, IsPlanned, MeetSubset, all_chunks, chunks_to_come, offsets_to_come}
 
 module _ {G E H F : Type 0} where
   -- the chunks of the target into which the copies are still to come; and they, counted from the first one
@@ -51,16 +49,6 @@ module _ {G E H F : Type 0} where
     pub in_source : LiesIn (region_of walk) (array_sizes (source_dimensions walk.source.now.grid))
     pub meet : MeetSubset target_dimensions walk.targets
 
-module _ {G E : Type 0} where
-  -- the walk has to give the plan of reading a box of elements
-  pub record IsPlanned (dimensions : G → List Dimension) (grid : G) (encoding : E) (subset : Box) (walk : Parts G E) : Type 0 where
-    pub about : IsAbout grid encoding subset walk
-    pub meet : MeetSubset dimensions walk
-    pub cover : Box
-    pub is_cover : IsCover (dimensions grid) subset cover
-    pub left : chunks_to_come walk ≡ chunks_in cover
-    pub all : all_chunks walk ≡ chunks_in cover
-
 -- what holds of a group, where `next` gave one
 abbrev pub IfGroup : {T : Type 0} → (T → Type 0) → Option (Result T AllocError) → Type 0
 IfGroup P (Some (Ok group)) = P group
@@ -79,8 +67,7 @@ pub record GivesCopies {G E H F : Type 0} (source_dimensions : G → List Dimens
   pub to : CanMove source_dimensions target_dimensions before
       → IfGroup (λ group. IsPart (target_dimensions before.targets.grid.now) (target_key before.targets.encoding.now) before.targets.array_subset
       group.to.chunk.items group.to) given
-  pub from : CanMove source_dimensions target_dimensions before
-      → IfGroup (λ group. IsPlanned source_dimensions before.source.now.grid before.source.now.encoding
+  pub from : IfGroup (λ group. IsPlanned source_dimensions before.source.now.grid before.source.now.encoding
       (shifted (first_of before) group.to.in_subset) group.from) given
   pub can : CanMove source_dimensions target_dimensions before → CanMove source_dimensions target_dimensions after
 

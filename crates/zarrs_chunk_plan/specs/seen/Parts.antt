@@ -9,10 +9,10 @@ use Rattle.zarrs_chunk_base.specs.Refusal.{AnswersOrMemory}
 use Rattle.zarrs_chunk_base.specs.declared.incompatible_dimensionality_error.IncompatibleDimensionalityError.{IncompatibleDimensionalityError}
 use Rattle.zarrs_chunk_base.specs.declared.refusal.Refusal.{Refusal}
 use Rattle.zarrs_chunk_base.specs.declared.refusal.Refusal.TheVariants.{Refused, Memory}
-use Rattle.zarrs_chunks.specs.Subsets.{HasNoHome, IsCover}
+use Rattle.zarrs_chunks.specs.Subsets.{HasNoHome}
 use Rattle.zarrs_chunks.specs.Walks.{Gives, chunks_in}
 use Rattle.zarrs_chunk_plan.specs.seen.ChunksBetween.{all_between, chunks_between, offsets_between}
-use Rattle.zarrs_chunk_parts.specs.Plan.{IsPart, Meets}
+use Rattle.zarrs_chunk_parts.specs.Plan.{Covers, IsPart, Meets}
 use Rattle.zarrs_chunk_parts.specs.declared.part.Part.{Part}
 use Rattle.zarrs_chunk_plan.specs.declared.read.walk.Parts.{Parts}
 
@@ -34,18 +34,13 @@ module _ {G E : Type 0} where
     pub same_encoding : walk.encoding.now ≡ encoding
     pub same_subset : walk.array_subset ≡ subset
 
-  -- what `parts` answers where the box isn't empty: the parts of the chunks of its cover, and none where it has none
-  abbrev pub AnswersParts : List Dimension → Box → Result (Option (Parts G E)) (Refusal IncompatibleDimensionalityError) → Type 0
-  AnswersParts ds b =
-      AnswersOrMemory (length b.start) (length ds) (λ walk. (cover : Box) × IsCover ds b cover × (chunks_to_come walk ≡ chunks_in cover))
-      (HasNoHome ds b.start ⊎ HasNoHome ds (lasts b.start b.shape))
-
-  -- where it is empty: no parts
-  abbrev pub AnswersNoParts : Result (Option (Parts G E)) (Refusal IncompatibleDimensionalityError) → Type 0
-  AnswersNoParts (Ok (Some walk)) = chunks_to_come walk ≡ []
-  AnswersNoParts (Ok None) = ⊥
-  AnswersNoParts (Err (Refused _)) = ⊥
-  AnswersNoParts (Err (Memory _)) = Unit {0}
+  -- the walk has to give the plan of reading a box of elements
+  pub record IsPlanned (dimensions : G → List Dimension) (grid : G) (encoding : E) (subset : Box) (walk : Parts G E) : Type 0 where
+    pub about : IsAbout grid encoding subset walk
+    pub cover : Box
+    pub is_cover : Covers (dimensions grid) subset cover
+    pub left : chunks_to_come walk ≡ chunks_in cover
+    pub all : all_chunks walk ≡ chunks_in cover
 
   -- each chunk to come holds some element of the box
   abbrev pub MeetSubset : (G → List Dimension) → Parts G E → Type 0
@@ -55,6 +50,18 @@ module _ {G E : Type 0} where
   abbrev pub ArePartsToCome : (G → List Dimension) → (E → List ℕ → List ℕ → Type 0) → Parts G E → List Part → Type 0
   ArePartsToCome dimensions is_key walk =
       AllZip (IsPart (dimensions walk.grid.now) (is_key walk.encoding.now) walk.array_subset) (chunks_to_come walk)
+
+-- something is found for an empty box, unless it is out of memory
+abbrev pub FindsSome : {X : Type 0} → Result (Option X) (Refusal IncompatibleDimensionalityError) → Type 0
+FindsSome (Ok (Some _)) = Unit {0}
+FindsSome (Ok None) = ⊥
+FindsSome (Err (Refused _)) = ⊥
+FindsSome (Err (Memory _)) = Unit {0}
+
+-- Something is found for a box that isn't empty if its first and its last element lie in chunks. It is refused if it has another number of dimensions.
+abbrev pub FindsCovered : {X : Type 0} → List Dimension → Box → Result (Option X) (Refusal IncompatibleDimensionalityError) → Type 0
+FindsCovered ds b =
+    AnswersOrMemory (length b.start) (length ds) (λ _. Unit {0}) (HasNoHome ds b.start ⊎ HasNoHome ds (lasts b.start b.shape))
 
 -- each chunk has a key
 abbrev pub HasKeys : (List ℕ → List ℕ → Type 0) → Type 0

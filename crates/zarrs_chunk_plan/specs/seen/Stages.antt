@@ -1,4 +1,4 @@
--- How the shape of an array between is looked for: dimension by dimension what a shape would cost, and then a choice of one edge along each.
+-- How the shape of an intermediate array is looked for: dimension by dimension what a shape would cost, and then a choice of one edge along each.
 use Rattle.std.specs.Prelude.{◌≡◌, ℕ, ◌+◌, ◌*◌, ◌≤◌, ◌<◌, List, [], ◌∷◌, MatchOption, Option, Some, None, Vec}
 use Rattle.std.specs.Prelude.{cond, map, min, nat_lt, reverse}
 use Rattle.std.specs.Int.NonZero.{non_zero_u64_get}

@@ -98,12 +98,13 @@ impl<
     F: ChunkKeyEncodingTraits,
 > Copies<'a, G, E, H, F> {
     ghost use Rattle.std.specs.Prelude.{◌≡◌, ℕ, IfOk, IfSome, List};
-    ghost use Rattle.zarrs_chunk_base.specs.ArraySubset.{IsEmptyBox, IsInside};
+    ghost use Rattle.zarrs_chunk_base.specs.ArraySubset.{IsInside};
     ghost use Rattle.zarrs_chunk_base.specs.Dimension.{array_sizes};
     ghost use Rattle.zarrs_chunks.specs.Walks.{chunks_in};
     ghost use Rattle.zarrs_chunk_parts.specs.Plan.{Meets};
     ghost use Rattle.zarrs_chunk_plan.specs.Region.{EndWithin, shifted};
-    ghost use Rattle.zarrs_chunk_plan.specs.seen.Copies.{CanMove, IsAboutCopies, IsPlanned, all_targets, first_of, targets_to_come};
+    ghost use Rattle.zarrs_chunk_plan.specs.seen.Copies.{CanMove, IsAboutCopies, all_targets, first_of, targets_to_come};
+    ghost use Rattle.zarrs_chunk_plan.specs.seen.Parts.{IsPlanned};
 
     /// A walk over what is copied into chunks of the target that each take some of a box of elements. The first element of this lies at `first` in the
     /// source's array.
@@ -145,7 +146,7 @@ impl<
         &self,
         elements: &ArraySubset,
     ) -> Result<Option<Parts<'a, G, E>>, Refusal<IncompatibleDimensionalityError>>
-        ensures { (¬ IsEmptyBox elements.now) → IfOk result (λ found. IfSome found
+        ensures { IfOk result (λ found. IfSome found
             (IsPlanned G.dimensions self.now.source.now.grid self.now.source.now.encoding
             (shifted (first_of self.now) elements.now))) }
     {

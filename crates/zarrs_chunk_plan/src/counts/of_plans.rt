@@ -1,5 +1,5 @@
 //! How much a plan copies, without a walk over it.
-ghost use Rattle.std.specs.Prelude.{◌≡◌, ◌≢◌, ◌⊎◌, ◌<◌, ◌≤◌, ◌↔◌, ℕ, IfErr, IfOk, List, MatchOption, fold, length, map, max, min};
+ghost use Rattle.std.specs.Prelude.{◌≡◌, ◌≢◌, ◌⊎◌, ◌<◌, ◌≤◌, ◌↔◌, ℕ, IfErr, IfOk, IfSome, List, MatchOption, fold, length, map, max, min};
 ghost use Rattle.std.specs.List.{sum};
 ghost use Rattle.zarrs_chunk_base.specs.ArraySubset.{Box, IsBox, IsEmptyBox, IsInside};
 ghost use Rattle.zarrs_chunk_base.specs.Dimension.{InBox, array_sizes};
@@ -11,7 +11,8 @@ ghost use Rattle.zarrs_chunk_parts.specs.Plan.{Meets};
 ghost use Rattle.zarrs_chunk_plan.specs.Rechunking.{AreTargets, Group, IsRechunking, array_box};
 ghost use Rattle.zarrs_chunk_plan.specs.Region.{AnyChunk, CanBeMoved, IsRegionCopy, IsRegionFault, moved};
 ghost use Rattle.zarrs_chunk_plan.specs.seen.Copies.{IsCopiesFault};
-ghost use Rattle.zarrs_chunk_plan.specs.seen.ReadCounts.{AnswersCounts, AnswersNoCounts};
+ghost use Rattle.zarrs_chunk_plan.specs.seen.Parts.{FindsCovered, FindsSome};
+ghost use Rattle.zarrs_chunk_plan.specs.seen.ReadCounts.{AreCountsOf};
 ghost use Rattle.zarrs_chunk_plan.specs.seen.TargetCounts.{AreTargetCounts, met_by_each};
 ghost use Rattle.zarrs_chunk_plan.specs.seen.Sources.{AreTaking, counters};
 ghost use Rattle.zarrs_chunk_plan.specs.seen.Used.{HoldsSome, IsHeldRange};
@@ -60,11 +61,12 @@ pub fn counts_of_read<G: ChunkGridTraits, E: ChunkKeyEncodingTraits>(
     array: &StoredArray<G, E>,
     array_subset: &ArraySubset,
 ) -> Result<Option<Counts>, Refusal<IncompatibleDimensionalityError>>
+    ensures counts { IfOk result (λ found. IfSome found (AreCountsOf
+        (G.dimensions array.now.grid) (E.is_key array.now.encoding) array_subset.now)) }
     ensures empty { IsEmptyBox array_subset.now → length (G.dimensions array.now.grid) ≢ 0
-        → AnswersNoCounts array_subset.now result }
+        → FindsSome result }
     ensures answers { (¬ IsEmptyBox array_subset.now) ⊎ (length (G.dimensions array.now.grid) ≡ 0)
-        → AnswersCounts (G.dimensions array.now.grid) (E.is_key array.now.encoding)
-        array_subset.now result }
+        → FindsCovered (G.dimensions array.now.grid) array_subset.now result }
 {
     array_subset.is_a_box();
     let cover = array.grid.chunks_in_array_subset(alloc, array_subset)?;

@@ -11,9 +11,9 @@ use zarrs_chunk_base::{ArraySubset, IncompatibleDimensionalityError, Refusal};
 use zarrs_chunk_parts::overlap;
 use zarrs_chunks::ChunkGridTraits;
 
-/// What a box of elements has of a grid's array: a box that begins where this one does, and has of its elements those whose indices are below the
-/// array shape; an empty one where there are none. What is counted from the start of the box stays the same. A box that isn't empty has a cover
-/// then, so that [`parts`](crate::parts) answers its parts and never `None`.
+/// Clips a box of elements to a grid's array: the result begins where the box does, and has those of its elements whose indices are below the array
+/// shape. Along each dimension it has as many indices as are below the array size, so it is empty if no element is. What is counted from the start of
+/// the box stays the same. If the result isn't empty, it has a cover, so [`parts`](crate::parts) returns its parts and never `None`.
 ///
 /// # Errors
 /// The box has another number of dimensions than the grid; or out of memory.
@@ -33,6 +33,7 @@ pub fn clip<G: ChunkGridTraits>(
     ensures lengths_first { length array_subset.now.start ≢ length (G.dimensions grid.now)
         → HasMemory result }
 {
+    array_subset.is_a_box();
     let dimensionality = array_subset.dimensionality();
     let expected = grid.dimensionality();
     if dimensionality != expected {

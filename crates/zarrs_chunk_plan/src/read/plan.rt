@@ -1,7 +1,7 @@
 //! The plan of reading a box of elements.
 ghost use Rattle.std.specs.Prelude.{◌≡◌, ◌≢◌, ◌⊎◌, IfOk, IfSome, length};
 ghost use Rattle.zarrs_chunk_base.specs.ArraySubset.{IsEmptyBox};
-ghost use Rattle.zarrs_chunk_plan.specs.seen.Parts.{AnswersNoParts, AnswersParts, IsAbout, MeetSubset, all_chunks, chunks_to_come};
+ghost use Rattle.zarrs_chunk_plan.specs.seen.Parts.{FindsCovered, FindsSome, IsPlanned};
 
 use crate::read::walk::Parts;
 use std::alloc::Global;
@@ -23,15 +23,12 @@ pub fn parts<'a, G: ChunkGridTraits, E: ChunkKeyEncodingTraits>(
     encoding: &'a E,
     array_subset: &ArraySubset,
 ) -> Result<Option<Parts<'a, G, E>>, Refusal<IncompatibleDimensionalityError>>
+    ensures planned { IfOk result (λ found. IfSome found
+        (IsPlanned G.dimensions grid.now encoding.now array_subset.now)) }
     ensures empty { IsEmptyBox array_subset.now → length (G.dimensions grid.now) ≢ 0
-        → AnswersNoParts result }
+        → FindsSome result }
     ensures answers { (¬ IsEmptyBox array_subset.now) ⊎ (length (G.dimensions grid.now) ≡ 0)
-        → AnswersParts (G.dimensions grid.now) array_subset.now result }
-    ensures about { IfOk result (λ found. IfSome found
-        (IsAbout grid.now encoding.now array_subset.now)) }
-    ensures meet { IfOk result (λ found. IfSome found (MeetSubset G.dimensions)) }
-    ensures all { IfOk result (λ found. IfSome found (λ walk.
-        all_chunks walk ≡ chunks_to_come walk)) }
+        → FindsCovered (G.dimensions grid.now) array_subset.now result }
 {
     array_subset.is_a_box();
     let cover = grid.chunks_in_array_subset(alloc, array_subset)?;

@@ -31,12 +31,12 @@ pub struct Changes<'a, G, H, E> {
 }
 
 impl<'a, G: ChunkGridTraits, H: ChunkGridTraits, E: ChunkKeyEncodingTraits> Changes<'a, G, H, E> {
-    ghost use Rattle.std.specs.Prelude.{◌≡◌, ◌≢◌, ◌↔◌, ◌+◌, ◌<◌, [], ℕ, IfOk, List, OnErr, OnOk, length};
+    ghost use Rattle.std.specs.Prelude.{◌≡◌, ◌≢◌, ◌↔◌, ◌+◌, ◌<◌, [], ℕ, IfOk, OnErr, OnOk, length};
     ghost use Rattle.zarrs_chunks.specs.Walks.{Gives};
     ghost use Rattle.zarrs_chunk_axes.specs.InBounds.{AreBelow};
     ghost use Rattle.zarrs_chunk_plan.specs.Counted.{counted};
     ghost use Rattle.zarrs_chunk_plan.specs.Rechunking.{array_box};
-    ghost use Rattle.zarrs_chunk_plan.specs.Resize.{IsChange, IsKept, IsUsed};
+    ghost use Rattle.zarrs_chunk_plan.specs.Resize.{AreChangedChunks, IsChange, IsUsed};
     ghost use Rattle.zarrs_chunk_plan.specs.seen.Changes.{CanChange, IsAboutResize, IsSameWalk, all_changes, changes_to_come};
     ghost use Rattle.zarrs_chunk_plan.specs.seen.ChunksBetween.{chunks_between};
     ghost use Rattle.zarrs_chunk_plan.specs.seen.Outside.{chunks_of_boxes};
@@ -56,12 +56,7 @@ impl<'a, G: ChunkGridTraits, H: ChunkGridTraits, E: ChunkKeyEncodingTraits> Chan
         ensures left { IfOk result (λ walk. changes_to_come walk ≡ chunks_of_boxes boxes.items) }
         ensures about { IfOk result (IsAboutResize before.now after.now encoding.now) }
         ensures all { IfOk result (λ walk. all_changes walk ≡ chunks_of_boxes boxes.items) }
-        ensures can_change { ((chunk : List ℕ) → AreBelow uses.before.items chunk
-            ↔ IsUsed (G.dimensions before.now) chunk)
-            → ((chunk : List ℕ) → AreBelow uses.after.items chunk
-            ↔ IsUsed (H.dimensions after.now) chunk)
-            → ((chunk : List ℕ) → AreBelow uses.kept.items chunk
-            ↔ IsKept (G.dimensions before.now) (H.dimensions after.now) chunk)
+        ensures can_change { AreChangedChunks (G.dimensions before.now) (H.dimensions after.now) uses
             → IfOk result (CanChange G.dimensions H.dimensions) }
     {
         let none = ArraySubset::new_empty(alloc, 1)?;

@@ -2,8 +2,7 @@
 ghost use Rattle.std.specs.Prelude.{◌≡◌, ◌≢◌, ◌↔◌, ◌⊎◌, ℕ, IfErr, IfOk, List, MatchResult, length};
 ghost use Rattle.std.specs.List.{Contains};
 ghost use Rattle.zarrs_chunk_base.specs.Refusal.{HasMemory, OrMemory, RefusesLength, TellsLengths};
-ghost use Rattle.zarrs_chunk_axes.specs.InBounds.{AreBelow};
-ghost use Rattle.zarrs_chunk_plan.specs.Resize.{AreChanged, AreResized, IsKept, IsUsed};
+ghost use Rattle.zarrs_chunk_plan.specs.Resize.{AreChangedChunks, AreChanged, AreResized};
 ghost use Rattle.zarrs_chunk_plan.specs.seen.Changes.{CanChange, IsAboutResize, all_changes, changes_to_come};
 ghost use Rattle.zarrs_chunk_plan.specs.seen.Outside.{AreOnce, IsOutside, IsToldBefore, chunks_of_boxes};
 
@@ -123,13 +122,8 @@ pub(crate) fn uses_of<G: ChunkGridTraits, H: ChunkGridTraits>(
     after: &H,
 ) -> Result<ChangedChunks, AllocError>
     requires { length (H.dimensions after.now) ≡ length (G.dimensions before.now) }
-    ensures before { IfOk result (λ uses. (chunk : List ℕ) → AreBelow uses.before.items chunk
-        ↔ IsUsed (G.dimensions before.now) chunk) }
-    ensures after { IfOk result (λ uses. (chunk : List ℕ) → AreBelow uses.after.items chunk
-        ↔ IsUsed (H.dimensions after.now) chunk) }
-    ensures kept { AreResized (G.dimensions before.now) (H.dimensions after.now)
-        → IfOk result (λ uses. (chunk : List ℕ) → AreBelow uses.kept.items chunk
-        ↔ IsKept (G.dimensions before.now) (H.dimensions after.now) chunk) }
+    ensures changed { AreResized (G.dimensions before.now) (H.dimensions after.now)
+        → IfOk result (AreChangedChunks (G.dimensions before.now) (H.dimensions after.now)) }
     ensures lengths { IfOk result (λ uses. length uses.after.items ≡ length uses.before.items) }
     ensures kept_lengths { IfOk result (λ uses. length uses.kept.items
         ≡ length uses.before.items) }

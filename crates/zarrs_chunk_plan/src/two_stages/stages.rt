@@ -1,10 +1,10 @@
-//! A rechunking in two stages, by an array between: its chunk shape, under a bound of how much a line of either stage holds.
+//! A rechunking in two stages, by an intermediate array: its chunk shape, under a bound of how much a line of either stage holds.
 //!
 //! ```text
 //! array    8760 x 720 x 1440
 //! source   [1, 720, 1440]      a chunk an hour; at most 2^28 elements are held at once
 //! between  [2048, 80, 1440]    first stage: 45 lines, each reads 2048 chunks of the source or fewer
-//! target   [8760, 10, 10]      second stage: 10368 lines, each reads 5 chunks of the array between
+//! target   [8760, 10, 10]      second stage: 10368 lines, each reads 5 chunks of the intermediate array
 //! ```
 ghost use Rattle.std.specs.Prelude.{◌≡◌, ◌≢◌, ◌↔◌, ◌⊎◌, ◌<◌, ℕ, ◌∷◌, [], IfErr, IfOk, IfSome, IsTrue, List, length, map, min, option_map, replicate, reverse};
 ghost use Rattle.std.specs.Int.NonZero.{non_zero_u64_get};
@@ -18,7 +18,7 @@ ghost use Rattle.zarrs_chunks.specs.seen.Grids.{regular_of};
 ghost use Rattle.zarrs_chunk_plan.specs.Counts.{product};
 ghost use Rattle.zarrs_chunk_parts.specs.Plan.{Meets};
 ghost use Rattle.zarrs_chunk_plan.specs.Rechunking.{array_box};
-ghost use Rattle.zarrs_chunk_plan.specs.Stages.{FindsShape, HasManyChunks, HoldAtMost, IsLargest, IsBoundFault, IsStagesFault, shapes_tried};
+ghost use Rattle.zarrs_chunk_plan.specs.Stages.{FindsShape, bound_for, HasManyChunks, HoldAtMost, IsLargest, IsBoundFault, IsStagesFault, shapes_tried};
 ghost use Rattle.zarrs_chunk_plan.specs.seen.Ends.{AreEnds, OfEnds};
 ghost use Rattle.zarrs_chunk_plan.specs.seen.Stages.{AreRead, AreRows, IsRow, edge_of, numbers_of, rows_of};
 
@@ -39,8 +39,8 @@ use zarrs_chunks::{ChunkGridTraits, RegularChunkGrid};
 const MOST_SHAPES: u64 = 1 << 20;
 
 /// Whether a largest chunk of the one grid and a largest one of the other have together at most so many elements, of those that hold elements of the
-/// array; where it has none, each has one. A worker that makes a chunk of the target, and reads the chunks of the source one after another, holds no
-/// more then ([`each_line_holds_at_most`](crate::laws::each_line_holds_at_most)).
+/// array. An array without elements is within any bound. A worker that makes a chunk of the target, and reads the chunks of the source one after
+/// another, holds no more then ([`each_line_holds_at_most`](crate::laws::each_line_holds_at_most)).
 ///
 /// It takes the time of a look-up for each chunk along each dimension by itself that isn't regular.
 ///
@@ -55,7 +55,8 @@ pub fn hold_at_most<G: ChunkGridTraits, H: ChunkGridTraits>(
 ) -> Result<bool, Refusal<StagesError>>
     ensures held { IfOk result (λ fits. (largest other : List ℕ)
         × IsLargest (G.dimensions source.now) largest × IsLargest (H.dimensions target.now) other
-        × (IsTrue fits ↔ HoldAtMost most largest other)) }
+        × (IsTrue fits ↔ HoldAtMost (bound_for (array_sizes (G.dimensions source.now)) most)
+        largest other)) }
     ensures one_array { IfOk result (λ _. array_sizes (G.dimensions source.now)
         ≡ array_sizes (H.dimensions target.now)) }
     ensures refused { IfErr result (OrMemory (IsBoundFault (G.dimensions source.now)
@@ -64,7 +65,14 @@ pub fn hold_at_most<G: ChunkGridTraits, H: ChunkGridTraits>(
         ≢ array_sizes (H.dimensions target.now) → HasMemory result }
 {
     let (largest, other) = largest_of_both(alloc, source, target)?;
-    Ok(are_at_most(&largest, &other, most))
+    Ok(are_at_most(&largest, &other, bound_of(source.array_shape(), most)))
+}
+
+/// Returns the bound that counts. An array with a size of 0 holds no elements, so it is within any bound.
+fn bound_of(sizes: &[u64], most: u64) -> u64
+    ensures { result ≡ bound_for sizes.now most }
+{
+    if sizes.contains(&0) { u64::MAX } else { most }
 }
 
 /// Whether a chunk of one shape and one of the other have together at most so many elements.
@@ -80,12 +88,13 @@ fn are_at_most(shape: &[u64], other: &[u64], most: u64) -> bool
     }
 }
 
-/// The chunk shape of an array between, the intermediate array of a rechunking in two stages, of which a line holds at most `most` elements. Both
-/// stages together move each element as the one rechunking does ([`two_stages_are_together_one`](crate::laws::two_stages_are_together_one)).
+/// Returns the chunk shape of the intermediate array of a rechunking in two stages, of which a line holds at most `most` elements. Both stages together
+/// move each element as the one rechunking does ([`two_stages_are_together_one`](crate::laws::two_stages_are_together_one)).
 ///
 /// - The edges tried along a dimension are the lesser of the greatest edges of both arrays, doubled as long as it stays below the greater one, and
 ///   that; both are first cut to the size of the array.
-/// - A shape fits where one of its chunks and a largest chunk of the source have together at most `most` elements, and so with the target.
+/// - A shape fits if one of its chunks and a largest chunk of the source have together at most `most` elements, and so with the target. If the array has
+///   no elements, any bound is enough.
 /// - Of the shapes that fit, it is the one by which both stages together read the fewest chunks: one that is in several lines counts in each, up to
 ///   18446744073709551615 in all. Of several such, it is the first in row-major order. So either stage is by the same array, whoever asks for it.
 ///
@@ -123,6 +132,7 @@ pub fn shape_between<G: ChunkGridTraits, H: ChunkGridTraits>(
         return Err(Refusal::Refused(StagesError::ManyShapes));
     }
     let rows = all_rows(alloc, source, target, &tried)?;
+    let most = bound_of(source.array_shape(), most);
     let held = saturating_product(&largest).max(saturating_product(&other));
     let chosen = fewest(alloc, &rows, most.saturating_sub(held), 1, 1)?;
     Ok(outermost_first(chosen))

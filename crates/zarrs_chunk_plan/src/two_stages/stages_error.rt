@@ -11,6 +11,6 @@ pub enum StagesError {
     #[error("the source or the target has more than 1048576 chunks along its dimensions, too many to go through")]
     ManyChunks,
     /// There are too many chunk shapes to try.
-    #[error("there are more than 1048576 chunk shapes to try for the array between")]
+    #[error("there are more than 1048576 chunk shapes to try for the intermediate array")]
     ManyShapes,
 }

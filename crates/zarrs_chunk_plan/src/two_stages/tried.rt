@@ -1,4 +1,4 @@
-//! The edges that are tried for an array between, dimension by dimension.
+//! The edges that are tried for an intermediate array, dimension by dimension.
 ghost use Rattle.std.specs.Prelude.{◌≡◌, IfOk, length, min};
 ghost use Rattle.zarrs_chunk_base.specs.Greatest.{greatest};
 ghost use Rattle.zarrs_chunk_plan.specs.Counts.{product};

@@ -1,5 +1,5 @@
 -- What the steps leave that make a line.
-use Rattle.std.specs.Prelude.{◌≡◌, ◌⊎◌, ℕ, IsSome, List, Result, Ok, Err, false}
+use Rattle.std.specs.Prelude.{◌≡◌, ◌⊎◌, ℕ, ◌≤◌, IsSome, List, length, Option, Some, None, Result, Ok, Err, false}
 use Rattle.serde_json.specs.Data.{Data}
 use Rattle.serde_json.specs.View.{view}
 use Rattle.serde_json.specs.Written.{compact_text, has_float}
@@ -20,6 +20,11 @@ use Rattle.zarrs_chunk_questions.specs.seen.Read.{fault_of}
 -- the fault is that the line can't be read, and why
 abbrev pub IsUnreadableAs : LineFault → Fault → Type 0
 IsUnreadableAs fault why = (told : Unreadable) × (fault ≡ UnreadableFault told) × (fault_of told ≡ why)
+
+-- the tree of an answer; or none, where the text of one has so many bytes, or more
+abbrev pub IsGiven : (bytes : ℕ) → (Data → Type 0) → Option Value → Type 0
+IsGiven bytes Answers (Some tree) = Answers (view tree)
+IsGiven bytes Answers None = (tree : Data) × Answers tree × (bytes ≤ length (compact_text tree))
 
 -- the answer of a tree
 abbrev pub IsTreeAnswer : Data → Data → Type 0

@@ -1,9 +1,10 @@
-use Rattle.std.proofs.Common.{[], ◌∷◌, ◌++◌, ◌∙◌, ap, inl, refl, subst, sym}
+use Rattle.std.proofs.Common.{[], ◌∷◌, ◌++◌, inl, refl, subst, sym}
 use Rattle.std.proofs.lemmas.Slice.Zip.{all_zipped_more}
 use Rattle.std.specs.List.{AllZip}
 use Rattle.zarrs_chunk_plan.proofs.Taken.{no_parts}
-use Rattle.zarrs_chunk_plan.proofs.Walked.{IsPartOf, at_first, at_last, one_more, plan_of}
-use Rattle.zarrs_chunk_plan.specs.seen.Parts.{IsAbout, MeetSubset, chunks_to_come}
+use Rattle.zarrs_chunk_plan.proofs.Walked.{at_first, at_last, one_more, plan_of, planned_meet}
+use Rattle.zarrs_chunk_plan.proofs.SomePlan.{no_plan}
+use Rattle.zarrs_chunk_plan.specs.seen.Parts.{IsPlanned, MeetSubset}
 use Rattle.callers.specs.Reading.{IsRead}
 use Rattle.callers.proofs.Pieces.{are_pieces}
 use Rattle.callers.proofs.reading.read_box.Goals as goal
@@ -13,7 +14,8 @@ loop-part-init g c =
     let dimensions = g.G.ChunkGridTraits.dimensions in
     let is_key = g.E.ChunkKeyEncodingTraits.is_key in
     let begin = c.into_iter-part-iterator.result in
-    let meet = rw c.in-Some.is at c.in_ok-walk.ensures.meet in (
+    let planned = rw c.in-Some.is at c.in_ok-walk.ensures.planned in
+    let meet = planned_meet dimensions _ _ _ _ planned in (
       [],
       at_first dimensions is_key begin begin [] refl refl
           (subst (MeetSubset dimensions) (sym c.into_iter-part-iterator.ensures.into_iter_gives) meet),
@@ -39,12 +41,15 @@ returns-clause-empty g c = λ is_empty some.
     let dimensions = g.G.ChunkGridTraits.dimensions in
     let is_key = g.E.ChunkKeyEncodingTraits.is_key in
     let begin = c.into_iter-part-iterator.result in
+    let same = c.into_iter-part-iterator.ensures.into_iter_gives in
     let (came, have, are) = c.loop-part.invariant in
-    let none = rw c.in-Some.is at (c.in_ok-walk.ensures.empty is_empty some) in
+    let planned = subst (IsPlanned dimensions c.args.grid.now c.args.encoding.now c.args.array_subset.now) (sym same)
+    (rw c.in-Some.is at c.in_ok-walk.ensures.planned) in
     let parts = at_last dimensions is_key begin c.loop-part.part-iterator c.next.new.self came have c.in-None.ensures.steps in
+    let plan = plan_of dimensions is_key c.args.grid.now c.args.encoding.now c.args.array_subset.now planned.cover begin came planned.about
+    planned.is_cover planned.left parts in
     no_parts (IsRead (g.S.ChunkStore.answers c.args.store.now)) came c.loop-part.pieces.items
-    (no_parts (IsPartOf dimensions is_key begin) (chunks_to_come begin) came
-    (ap chunks_to_come c.into_iter-part-iterator.ensures.into_iter_gives ∙ none) parts) are
+    (no_plan (dimensions c.args.grid.now) (is_key c.args.encoding.now) c.args.array_subset.now came is_empty plan) are
 
 pub returns-clause-answers : goal.returns-clause-answers
 returns-clause-answers g c = λ some.
@@ -56,10 +61,10 @@ returns-clause-answers g c = λ some.
     let begin = c.into_iter-part-iterator.result in
     let same = c.into_iter-part-iterator.ensures.into_iter_gives in
     let (came, have, are) = c.loop-part.invariant in
-    let (lengths, (cover, is, left)) = rw c.in-Some.is at (c.in_ok-walk.ensures.answers (inl some)) in
-    let about = subst (IsAbout grid encoding subset) (sym same) (rw c.in-Some.is at c.in_ok-walk.ensures.about) in
+    let (lengths, _) = rw c.in-Some.is at (c.in_ok-walk.ensures.answers (inl some)) in
+    let planned = subst (IsPlanned dimensions grid encoding subset) (sym same) (rw c.in-Some.is at c.in_ok-walk.ensures.planned) in
     let parts = at_last dimensions is_key begin c.loop-part.part-iterator c.next.new.self came have c.in-None.ensures.steps in
-    let plan = plan_of dimensions is_key grid encoding subset cover begin came about is (ap chunks_to_come same ∙ left) parts in (
+    let plan = plan_of dimensions is_key grid encoding subset planned.cover begin came planned.about planned.is_cover planned.left parts in (
       lengths,
       λ array stored. are_pieces (dimensions grid) (is_key encoding) subset
           (g.S.ChunkStore.answers c.args.store.now) array came c.loop-part.pieces.items

@@ -1,8 +1,4 @@
-use Rattle.std.proofs.Common.{◌≢◌, rules}
-use Rattle.streams.specs.Watched.{watched}
-use Rattle.streams.specs.declared.stream_fault.StreamFault.TheVariants.{Write}
-use Rattle.programs.specs.chunkcalls.Lines.{HasAnswered, HoldsAnswers}
-use Rattle.streams.specs.seen.Sent.{written}
+use Rattle.programs.proofs.chunkcalls.Common.{◌≢◌, rules, watched, Write, HasAnswered, HoldsAnswers, written}
 use Rattle.programs.proofs.chunkcalls.Counts.{are_lines_for}
 use Rattle.programs.proofs.chunkcalls.PartWay.{all_written, answered_read, begun_at_end, begun_held_back, begun_unwritten}
 use Rattle.programs.proofs.chunkcalls.run.Goals as goal

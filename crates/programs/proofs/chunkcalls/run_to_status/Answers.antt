@@ -1,11 +1,6 @@
-use Rattle.std.proofs.Common.{◌≡◌, ℕ, false, List, Err, IfErr, Ok, OnErr, OnOk, Result}
+use Rattle.programs.proofs.chunkcalls.Common.{◌≡◌, ℕ, false, List, Err, IfErr, Ok, OnErr, OnOk, Result, watched, StreamFault, Read, HoldsAll, Output}
+use Rattle.programs.proofs.chunkcalls.Common.{written, for_known, HasAnsweredRead, HasBegunAnswers, HoldsAnswers}
 use Rattle.streams.specs.Streams.{Streams}
-use Rattle.streams.specs.Watched.{watched}
-use Rattle.streams.specs.declared.stream_fault.StreamFault.{StreamFault}
-use Rattle.streams.specs.declared.stream_fault.StreamFault.TheVariants.{Read}
-use Rattle.streams.specs.seen.Sent.{HoldsAll, Output, written}
-use Rattle.streams.proofs.Known.{for_known}
-use Rattle.programs.specs.chunkcalls.Lines.{HasAnsweredRead, HasBegunAnswers, HoldsAnswers}
 use Rattle.programs.specs.chunkcalls.Run.{RunLeaves, TellsFailure}
 use Rattle.programs.proofs.chunkcalls.run_to_status.Goals as goal
 

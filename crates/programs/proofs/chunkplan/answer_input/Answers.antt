@@ -1,13 +1,10 @@
-use Rattle.std.proofs.Common.{◌≡◌, ◌∙◌, ◌++◌, [], Some, ap, append-nil, false, subst, sym, true≢false}
-use Rattle.streams.specs.Watched.{has_failed, watched}
-use Rattle.programs.specs.chunkplan.Keys.{HasKeysBehind, behind_first, first_line}
-use Rattle.streams.specs.seen.Lines.{left}
-use Rattle.streams.specs.seen.Sent.{written}
-use Rattle.streams.proofs.Known.{for_known}
-use Rattle.streams.proofs.LineBytes.{both_parts, nothing_left}
+use Rattle.programs.specs.chunkplan.Planned.{text_of_line}
+use Rattle.programs.specs.chunkplan.seen.Steps.{ReadLeaves}
+use Rattle.programs.proofs.chunkplan.Common.{◌≡◌, ◌∙◌, ◌++◌, [], Some, ap, append-nil, false, subst, sym, true≢false, has_failed, watched}
+use Rattle.programs.proofs.chunkplan.Common.{HasKeysBehind, behind_first, first_line, left, written, for_known, both_parts, nothing_left}
 use Rattle.programs.proofs.chunkplan.Inputs.{sent_after_reading, sent_beside_keys}
-use Rattle.programs.proofs.chunkplan.answer_input.Goals as goal
 use Rattle.programs.proofs.chunkplan.answer_input.Goals.{then-ended+in_ok-read_rest, else-ended}
+use Rattle.programs.proofs.chunkplan.answer_input.Goals as goal
 
 pub returns-then-branch : goal.returns-then-branch
 returns-then-branch g c =
@@ -20,9 +17,13 @@ returns-then-branch g c =
     in
     let behind = rw all at c.in_ok-ended.ensures.behind in
     let has : HasKeysBehind (first_line input) = rw (c.deref.ensures.value ∙ line) at (c.in_ok-has_keys_behind.ensures.0 c.if-branch.true) in
-    sent_beside_keys input _ _ (written g.W.Write.contents c.args.sink.now) (written g.W.Write.contents c.answer_beside_keys.new.sink)
-    c.answer_beside_keys.result has _ (c.in_ok-ended.ensures.failed ∙ not_read)
-    ((rw line at c.answer_beside_keys.ensures) (behind_first input) behind))
+    let before = written g.W.Write.contents c.args.sink.now in
+    let after = written g.W.Write.contents c.answer_beside_keys.new.sink in
+    let read = has_failed c.answer_beside_keys.new.reader in
+    let rest = g.R.Read.remaining (watched c.answer_beside_keys.new.reader) in
+    sent_beside_keys input read rest before after c.answer_beside_keys.result has _ (c.in_ok-ended.ensures.failed ∙ not_read)
+    (subst (λ l. ReadLeaves (text_of_line l (behind_first input)) c.answer_beside_keys.result (has_failed c.read_line.new.reader) read rest before after)
+    line (c.answer_beside_keys.ensures (behind_first input) behind)))
 
 pub returns : goal.returns
 returns g c =

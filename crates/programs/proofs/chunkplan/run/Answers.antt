@@ -1,7 +1,4 @@
-use Rattle.std.proofs.Common.{◌∙◌}
-use Rattle.streams.specs.Watched.{watched}
-use Rattle.streams.specs.seen.Sent.{written}
-use Rattle.streams.proofs.Known.{for_known}
+use Rattle.programs.proofs.chunkplan.Common.{◌∙◌, watched, written, for_known}
 use Rattle.programs.proofs.chunkplan.Exits.{handed}
 use Rattle.programs.proofs.chunkplan.RunOutcomes.{all_written, sending_stops, some_written}
 use Rattle.programs.proofs.chunkplan.run.Goals as goal

@@ -1,5 +1,4 @@
-use Rattle.streams.specs.Watched.{watched}
-use Rattle.streams.proofs.Known.{for_known}
+use Rattle.programs.proofs.chunkplan.Common.{watched, for_known}
 use Rattle.programs.proofs.chunkplan.run_to_status.Goals as goal
 
 pub returns-clause-outcome : goal.returns-clause-outcome

@@ -1,10 +1,6 @@
-use Rattle.std.proofs.Common.{◌≡◌, ◌⊎◌, ◌∙◌, ℕ, List, true, Err, ap, arith, inl, inr, refl, subst, sym, true≢false, ⊎_elim}
-use Rattle.programs.specs.chunkplan.Document.{document_in}
-use Rattle.programs.specs.chunkplan.Keys.{HasKeysBehind}
-use Rattle.programs.specs.chunkplan.PlanFault.{of_input, several_lines}
-use Rattle.programs.specs.chunkplan.RunFault.{is_not_json}
-use Rattle.programs.specs.declared.chunkplan.run_fault.RunFault.{RunFault}
-use Rattle.programs.specs.declared.chunkplan.run_fault.RunFault.TheVariants.{Memory, NotJson}
+use Rattle.programs.proofs.chunkplan.Common.{◌≡◌, ◌⊎◌, ◌∙◌, ℕ, List, true, Err, ap, arith, inl, inr, refl, subst, sym, true≢false, ⊎_elim}
+use Rattle.programs.proofs.chunkplan.Common.{document_in, HasKeysBehind, is_not_json, RunFault, Memory, NotJson}
+use Rattle.programs.specs.chunkplan.Planned.{of_input, several_lines}
 use Rattle.programs.proofs.chunkplan.whole_fault.Goals as goal
 
 is_no_json : (fault : RunFault) → is_not_json fault ≡ true → fault ≡ NotJson

@@ -1,6 +1,5 @@
 -- What a writer of JSON has after some tokens were written.
-use Rattle.std.specs.Prelude.{◌≡◌, List, ◌++◌}
-use Rattle.json.specs.Token.{Token}
+use Rattle.programs.specs.chunkplan.Common.{◌≡◌, List, ◌++◌, Token}
 use Rattle.json.specs.Written.{Written}
 
 -- these tokens were appended, and what stood before them stands

@@ -1,16 +1,10 @@
--- The array between, as the program makes it.
-use Rattle.std.specs.Prelude.{◌≡◌, ℕ, List, Some}
-use Rattle.zarrs_chunk_base.specs.Dimension.{Dimension, array_sizes}
-use Rattle.zarrs_chunk_keys.specs.seen.Encodings.{encoding_in}
-use Rattle.zarrs_chunks.specs.GridKinds.{grid_kind, regular}
-use Rattle.zarrs_chunks.specs.seen.Grids.{grid_in}
-use Rattle.zarrs_chunk_plan.specs.Stages.{FindsShape}
+-- The intermediate array, as the program makes it.
+use Rattle.programs.specs.chunkplan.Common.{◌≡◌, ℕ, List, Some, Dimension, array_sizes, encoding_in, grid_kind, regular, grid_in, FindsShape}
+use Rattle.programs.specs.chunkplan.Common.{RunFault, Stages}
 use Rattle.zarrs_chunk_plan.specs.declared.two_stages.stages_error.StagesError.{StagesError}
 use Rattle.programs.specs.chunkplan.Planned.{between_keys}
 use Rattle.programs.specs.chunkplan.seen.Opened.{sizes_of}
 use Rattle.programs.specs.declared.chunkplan.between.Between.{Between}
-use Rattle.programs.specs.declared.chunkplan.run_fault.RunFault.{RunFault}
-use Rattle.programs.specs.declared.chunkplan.run_fault.RunFault.TheVariants.{Stages}
 
 -- an array of these sizes, in chunks with these edges
 pub record IsMadeOf (sizes edges : List ℕ) (b : Between) : Type 0 where
@@ -19,7 +13,7 @@ pub record IsMadeOf (sizes edges : List ℕ) (b : Between) : Type 0 where
   pub same_sizes : sizes_of b.array ≡ sizes
   pub keys : encoding_in b.array.encoding ≡ between_keys
 
--- the array between, for a bound
+-- the intermediate array, for a bound
 pub record IsOpened (source target : List Dimension) (most : ℕ) (b : Between) : Type 0 where
   pub finds : FindsShape source target most (Some b.shape.items)
   pub made : IsMadeOf (array_sizes source) b.shape.items b

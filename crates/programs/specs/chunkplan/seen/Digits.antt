@@ -1,7 +1,5 @@
 -- Numbers as lists of decimal digits, the last one first.
-use Rattle.std.specs.Prelude.{◌≡◌, ℕ, ◌+◌, ◌*◌, ◌<◌, List, [], ◌∷◌}
-use Rattle.std.specs.List.{AllByRecursion}
-use Rattle.zarrs_chunk_keys.specs.Numeral.{IsNumeral}
+use Rattle.programs.specs.chunkplan.Common.{◌≡◌, ℕ, ◌+◌, ◌*◌, ◌<◌, List, [], ◌∷◌, AllByRecursion, IsNumeral}
 
 abbrev pub AreDigits : List ℕ → Type 0
 AreDigits = AllByRecursion (λ digit. digit < 10)

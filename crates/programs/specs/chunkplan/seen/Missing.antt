@@ -1,23 +1,11 @@
 -- What is known after some keys were read.
-use Rattle.std.specs.Prelude.{◌≡◌, ◌↔◌, ◌⊎◌, ◌++◌, ◌&&◌, ℕ, Bool, true, false, if◌then◌else◌, Contains, IfSome, length, List, [], ◌∷◌, Option, Some, Ok, Err}
-use Rattle.std.specs.Str.{IsUtf8}
-use Rattle.zarrs_chunk_base.specs.Dimension.{Dimension}
-use Rattle.zarrs_chunk_base.specs.StoreKey.{EndsInSlash}
-use Rattle.zarrs_chunk_plan.specs.Rechunking.{Group}
-use Rattle.zarrs_chunk_plan.specs.Counted.{counted}
-use Rattle.zarrs_chunk_plan.specs.Shares.{before_share, share_of}
-use Rattle.zarrs_chunk_parts.specs.declared.part.Part.{Part}
-use Rattle.zarrs_chunk_plan.specs.declared.shares.share.Share.{Share}
+use Rattle.programs.specs.chunkplan.Common.{◌≡◌, ◌↔◌, ◌⊎◌, ◌++◌, ◌&&◌, ℕ, Bool, true, false, if◌then◌else◌, Contains, IfSome, length, List, [], ◌∷◌}
+use Rattle.programs.specs.chunkplan.Common.{Option, Some, IsUtf8, Dimension, EndsInSlash, Group, counted, before_share, share_of, Part, Share, Order}
+use Rattle.programs.specs.chunkplan.Common.{RunFault, KeyNotText, Memory, Read}
 use Rattle.zarrs_chunk_plan.specs.declared.copy.stored_chunks.StoredChunks.{StoredChunks}
 use Rattle.zarrs_chunk_plan.specs.seen.StoredChunks.{Knows, is_stored}
-use Rattle.programs.specs.chunkplan.Document.{Document, document_in}
-use Rattle.programs.specs.chunkplan.PlanFault.{IsFaultBeside}
-use Rattle.programs.specs.chunkplan.Planned.{IsPlannedBeside}
-use Rattle.programs.specs.chunkplan.Keys.{AreForeign, AreKeys, IsFirstNoText, foreign_lines}
+use Rattle.programs.specs.chunkplan.Keys.{AreForeign, IsFirstNoText, foreign_lines}
 use Rattle.programs.specs.chunkplan.Line.{group_line, lines_from}
-use Rattle.programs.specs.declared.chunkplan.line.Order.{Order}
-use Rattle.programs.specs.declared.chunkplan.run_fault.RunFault.{RunFault}
-use Rattle.programs.specs.declared.chunkplan.run_fault.RunFault.TheVariants.{KeyNotText, Memory, Read}
 
 -- whether the line of a chunk of the target is left out, by its number: it is stored, and would be written whole
 abbrev pub is_left_out : Option StoredChunks → (at : Option ℕ) → Part → Bool
@@ -60,16 +48,3 @@ IsKeysStop Read bytes read_before read_after = read_after ≡ true
 IsKeysStop Memory bytes read_before read_after = read_after ≡ read_before
 IsKeysStop (KeyNotText line) bytes read_before read_after = (read_after ≡ read_before) × IfSome bytes (λ bs. IsFirstNoText 2 bs line)
 IsKeysStop _ bytes read_before read_after = ⊥
-
--- a text of which Planned holds with the keys in some lines
-abbrev pub BesideKeys : (Planned : List (List ℕ) → List ℕ → Type 0) → (bytes text : List ℕ) → Type 0
-BesideKeys Planned bytes text = (keys : List (List ℕ)) × AreKeys bytes keys × Planned keys text
-
--- what is written for a first line with lines of keys after it, and the first fault of both
-abbrev pub IsTextOfLine : (line bytes text : List ℕ) → Type 0
-IsTextOfLine line bytes text =
-    (document : Document) × document_in line (Ok document) × BesideKeys (IsPlannedBeside document) bytes text
-
-abbrev pub IsFaultOfLine : (line bytes : List ℕ) → RunFault → Type 0
-IsFaultOfLine line bytes fault =
-    document_in line (Err fault) ⊎ ((document : Document) × document_in line (Ok document) × IsFaultBeside document bytes fault)

@@ -1,18 +1,13 @@
 -- What values of opened arrays mean, and of walks over them.
-use Rattle.std.specs.Prelude.{ℕ, List}
-use Rattle.zarrs_chunk_base.specs.Dimension.{Dimension, array_sizes}
-use Rattle.zarrs_chunk_keys.specs.ChunkKey.{IsKey}
+use Rattle.programs.specs.chunkplan.Common.{ℕ, List, Result, Dimension, array_sizes, IsKey, encoding_in, Part, Group, grid_in, RunFault}
 use Rattle.zarrs_chunk_keys.specs.declared.chunk_key_encoding.named.ChunkKeyEncoding.{ChunkKeyEncoding}
-use Rattle.zarrs_chunk_keys.specs.seen.Encodings.{encoding_in}
-use Rattle.zarrs_chunk_parts.specs.declared.part.Part.{Part}
-use Rattle.zarrs_chunk_plan.specs.Rechunking.{Group}
 use Rattle.zarrs_chunk_plan.specs.declared.copy.chunk_copies.Copies.{Copies}
 use Rattle.zarrs_chunk_plan.specs.declared.stored_array.StoredArray.{StoredArray}
 use Rattle.zarrs_chunk_plan.specs.declared.read.walk.Parts.{Parts}
 use Rattle.zarrs_chunk_plan.specs.seen.Copies.{AreMovesToCome, CanMove}
 use Rattle.zarrs_chunk_plan.specs.seen.Parts.{ArePartsToCome, MeetSubset}
 use Rattle.zarrs_chunks.specs.declared.chunk_grid.named.ChunkGrid.{ChunkGrid}
-use Rattle.zarrs_chunks.specs.seen.Grids.{grid_in}
+use Rattle.programs.specs.chunkplan.Planned.{Array}
 
 abbrev pub dimensions_in : ChunkGrid → List Dimension
 dimensions_in grid = (grid_in grid).dimensions
@@ -30,12 +25,20 @@ sizes_of array = array_sizes (dimensions_of array)
 abbrev pub key_of : StoredArray ChunkGrid ChunkKeyEncoding → List ℕ → List ℕ → Type 0
 key_of array = key_in array.encoding
 
+abbrev pub array_in : StoredArray ChunkGrid ChunkKeyEncoding → Array
+array_in array = (grid_in array.grid, encoding_in array.encoding)
+
 -- what a walk over parts, or over copies, has still to give
 abbrev pub PartsToCome : Parts ChunkGrid ChunkKeyEncoding → List Part → Type 0
 PartsToCome = ArePartsToCome dimensions_in key_in
 
 abbrev pub CopiesToCome : Copies ChunkGrid ChunkKeyEncoding ChunkGrid ChunkKeyEncoding → List Group → Type 0
 CopiesToCome = AreMovesToCome dimensions_in key_in dimensions_in key_in
+
+-- a text by the groups of a copy, those that a walk has still to give
+abbrev pub OfGroups : Copies ChunkGrid ChunkKeyEncoding ChunkGrid ChunkKeyEncoding → (text : List Group → Result (List ℕ) RunFault → Type 0)
+    → Result (List ℕ) RunFault → Type 0
+OfGroups walk text r = (groups : List Group) × CopiesToCome walk groups × text groups r
 
 -- and that it can give them
 abbrev pub CanGiveParts : Parts ChunkGrid ChunkKeyEncoding → Type 0

@@ -1,16 +1,12 @@
 -- A line in the pieces in which it is sent.
-use Rattle.std.specs.Prelude.{ℕ, zero, List, [], ◌∷◌, ◌++◌, codes, Option, None, Some, option_map}
-use Rattle.json.specs.Print.{print}
-use Rattle.json.specs.Token.{Token, begin_array, begin_object, boolean, end_array, end_object, key}
-use Rattle.json.specs.Tree.{json_tokens, members_tokens}
-use Rattle.zarrs_chunk_parts.specs.declared.part.Part.{Part}
+use Rattle.programs.specs.chunkplan.Common.{ℕ, zero, List, [], ◌∷◌, ◌++◌, codes, Option, None, Some, option_map, print, Token, begin_array}
+use Rattle.programs.specs.chunkplan.Common.{begin_object, boolean, end_array, end_object, key, json_tokens, members_tokens, Part, Order, Source}
+use Rattle.programs.specs.chunkplan.Common.{Target}
 use Rattle.programs.specs.chunkplan.Document.{RangesWanted, ranges_asked_of}
 use Rattle.programs.specs.chunkplan.Line.{chunk_json, count_json, end_members, line_of, part_json, part_ranges_json, piece_json}
 use Rattle.streams.specs.OneLine.{line_of as one_line, unbroken}
 use Rattle.programs.specs.declared.chunkplan.line.Form.{Form}
 use Rattle.programs.specs.declared.chunkplan.line.Form.TheVariants.{Line, Piece}
-use Rattle.programs.specs.declared.chunkplan.line.Order.{Order}
-use Rattle.programs.specs.declared.chunkplan.line.Order.TheVariants.{Source, Target}
 
 -- a comma, but before the first
 abbrev pub comma_before : Option ℕ → List ℕ

@@ -1,13 +1,10 @@
 -- What a step leaves that sends the text of a plan.
-use Rattle.std.specs.Prelude.{◌≡◌, ◌⊎◌, ℕ, Bool, true, false, List, [], IsOkAnd, Option, Some, Result, Ok, Err, Vec}
+use Rattle.programs.specs.chunkplan.Common.{◌≡◌, ◌⊎◌, ℕ, Bool, true, false, List, [], IsOkAnd, Option, Some, Result, Ok, Err, Vec, Global, RunFault}
+use Rattle.programs.specs.chunkplan.Common.{Memory, Read, Write}
 use Rattle.std.specs.declared.alloc.AllocError.{AllocError}
-use Rattle.std.specs.declared.alloc.Global.{Global}
 use Rattle.programs.specs.chunkplan.Keys.{HasKeysBehind, first_line}
-use Rattle.programs.specs.chunkplan.PlanFault.{IsFirstFault}
 use Rattle.programs.specs.chunkplan.Planned.{IsPlanOf}
 use Rattle.streams.specs.seen.Sent.{Output, Sends}
-use Rattle.programs.specs.declared.chunkplan.run_fault.RunFault.{RunFault}
-use Rattle.programs.specs.declared.chunkplan.run_fault.RunFault.TheVariants.{Memory, Read, Write}
 
 -- the text that was made, if there was memory for it
 abbrev pub IsMade : Result (Vec ℕ Global) AllocError → List ℕ → Type 0
@@ -31,6 +28,10 @@ StepLeaves Planned IsFault (Err Write) before after = (after.failed ≡ true) ×
 StepLeaves Planned IsFault (Err fault) before after =
     (after.failed ≡ before.failed) × (after.holds ≡ before.holds) × IsFault fault
 
+-- so of a text, or the first fault of one that isn't sent
+abbrev pub Leaves : (Result (List ℕ) RunFault → Type 0) → Result (Unit {0}) RunFault → Output → Output → Type 0
+Leaves text = StepLeaves (λ t. text (Ok t)) (λ fault. text (Err fault))
+
 -- What a step leaves that reads before it sends, by its outcome. If a read failed, nothing was sent. Otherwise it leaves what a step does that sends,
 -- and nothing was left to read when it began to send.
 abbrev pub ReadStepLeaves : (Planned : List ℕ → Type 0) (IsFault : RunFault → Type 0) → Result (Unit {0}) RunFault
@@ -44,8 +45,13 @@ ReadStepLeaves Planned IsFault (Err Write) read_before read_after left before af
 ReadStepLeaves Planned IsFault (Err fault) read_before read_after left before after =
     (read_after ≡ read_before) × StepLeaves Planned IsFault (Err fault) before after
 
+-- so of a text, or the first fault of one that isn't sent
+abbrev pub ReadLeaves : (Result (List ℕ) RunFault → Type 0) → Result (Unit {0}) RunFault → (read_before read_after : Bool) (left : Option (List ℕ))
+    → Output → Output → Type 0
+ReadLeaves text = ReadStepLeaves (λ t. text (Ok t)) (λ fault. text (Err fault))
+
 -- so of one that reads an input and sends its plan; keys after a document are left if that has a fault
 abbrev pub InputStepLeaves : (input : List ℕ) → Result (Unit {0}) RunFault → (read_failed : Bool) (left : Option (List ℕ)) → Output → Output → Type 0
 InputStepLeaves input r read_failed left before after =
-    ReadStepLeaves (IsPlanOf input) (λ fault. ((¬ HasKeysBehind (first_line input)) → left ≡ Some []) × IsFirstFault input fault) r false read_failed left
-    before after
+    ReadStepLeaves (λ text. IsPlanOf input (Ok text))
+    (λ fault. ((¬ HasKeysBehind (first_line input)) → left ≡ Some []) × IsPlanOf input (Err fault)) r false read_failed left before after

@@ -7,7 +7,9 @@ use Rattle.zarrs_chunk_batches.proofs.Ends.{ends_with, in_front}
 use Rattle.zarrs_chunk_batches.proofs.answer_call.answer_line.Goals as goal
 
 pub returns-in_default-clause-ends : goal.returns-in_default-clause-ends
-returns-in_default-clause-ends c = inr (late tt tt tt (refl, inr (refl, c.in_ok-answer.ensures.long c.in_default.is)))
+returns-in_default-clause-ends c =
+    let found = c.in_ok-answer.ensures in
+    inr (late tt tt tt (refl, inr (refl, found.long c.in_default.is, found.longer c.in_default.is)))
 
 pub returns-clause-ends : goal.returns-clause-ends
 returns-clause-ends c =

@@ -14,6 +14,11 @@ box_of-requires c =
     rw (starts, sizes)
     (overlap_is_box one.start one.shape other.start other.shape is_one.lengths is_other.lengths c.requires fit is_other.fits)
 
+pub returns-clause-shape : goal.returns-clause-shape
+returns-clause-shape c =
+    let sizes = rw (c.start-3.ensures.value, c.in_ok-from_slice.ensures.items, c.shape.ensures.value) at c.sizes_shared-shape.ensures in
+    rw c.box_of.ensures sizes
+
 pub returns-clause-common : goal.returns-clause-common
 returns-clause-common c = λ index.
     let one = c.args.one.now in

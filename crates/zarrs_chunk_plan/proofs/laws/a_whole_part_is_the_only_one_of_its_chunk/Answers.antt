@@ -3,5 +3,5 @@ use Rattle.zarrs_chunk_plan.proofs.laws.a_whole_part_is_the_only_one_of_its_chun
 
 pub returns : goal.returns
 returns g c = λ one_array chunks.
-    one_of_its_chunk _ _ _ _ (g.met.G.ChunkGridTraits.chained c.args.source.now.grid) (g.met.H.ChunkGridTraits.chained c.args.target.now.grid) one_array
+    one_of_its_chunk _ _ _ _ (g.met.H.ChunkGridTraits.chained c.args.target.now.grid) one_array
     chunks

@@ -4,8 +4,7 @@ use Rattle.zarrs_chunk_plan.proofs.laws.each_line_holds_at_most.Goals as goal
 
 pub returns-clause-held : goal.returns-clause-held
 returns-clause-held g c = λ one_array most largest other none also fits chunks groups plan copy among.
-    let chains = g.met.G.ChunkGridTraits.chained c.args.source.now.grid in
-    hold _ _ _ _ chains one_array chunks groups plan copy among most largest other none also fits
+    hold _ _ _ _ one_array chunks groups plan copy among most largest other none also fits
 
 pub returns-clause-equal : goal.returns-clause-equal
 returns-clause-equal g c = none_longer

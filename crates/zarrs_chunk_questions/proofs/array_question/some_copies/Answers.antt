@@ -1,8 +1,10 @@
+use Rattle.std.proofs.Common.{◌+◌, ◌*◌, ◌<◌, ◌≤◌, arith}
+use Rattle.zarrs_chunks.specs.seen.Grids.{grid_in}
 use Rattle.std.proofs.Common.{option_map}
-use Rattle.std.proofs.lemmas.Option.{IfSome_then}
 use Rattle.serde_json.specs.View.{view}
 use Rattle.zarrs_chunk_questions.specs.Pages.{IsCopiesAnswer, first_of}
 use Rattle.zarrs_chunk_questions.specs.seen.Read.{items_of, lists_of, target_of}
+use Rattle.zarrs_chunk_questions.proofs.LongPages.{given_so, part_least}
 use Rattle.zarrs_chunk_questions.proofs.Refusals.{in_other_words}
 use Rattle.zarrs_chunk_questions.proofs.RechunkingsAsked.{answered, refused}
 use Rattle.zarrs_chunk_questions.proofs.array_question.some_copies.Goals as goal
@@ -17,8 +19,13 @@ returns c =
     let items = items_of c.args.items in
     let made = c.in_ok-rechunking.rechunking in
     let is = c.in_ok-rechunking.ensures in
+    let source = (grid_in made.source.grid).dimensions in
+    let fits : c.args.room < c.new-limits.result.too_many * part_least source =
+    rw is.same_grid (rw c.dimensionality.ensures at c.new-limits.ensures.full)
+    in
+    let full : c.args.room + 1 ≤ c.new-limits.result.too_many * part_least source = omega arith in
     in_other_words _ _ _ _ c.copies_from.result
-    (λ found some. IfSome_then found some
+    (λ found some. given_so (c.new-limits.result.too_many * part_least source) (c.args.room + 1) _ _ found
     (λ t. answered shape grid tree target chunks made is
-    (λ source IsSourceKey to IsTargetKey b. IsCopiesAnswer source IsSourceKey to IsTargetKey b (first_of items) items.most) (view t)))
-    (refused shape grid tree target chunks made is) (rw (c.unwrap_or-first.ensures, c.limits_of-limits.ensures) at c.copies_from.ensures)
+    (λ source IsSourceKey to IsTargetKey b. IsCopiesAnswer source IsSourceKey to IsTargetKey b (first_of items) items.most) t) full some)
+    (refused shape grid tree target chunks made is) (rw (c.unwrap_or-first.ensures, c.new-limits.ensures.most) at c.copies_from.ensures)

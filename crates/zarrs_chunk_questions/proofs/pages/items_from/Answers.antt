@@ -1,29 +1,57 @@
-use Rattle.std.proofs.Common.{◌≡◌, length, map, rules, subst, sym}
+use Rattle.std.proofs.Common.{◌≡◌, ◌∙◌, ◌+◌, ◌-◌, ◌++◌, append-nil, ap, arith, length, map, option_to_list, rules, subst, sym}
+use Rattle.std.proofs.lemmas.List.{length-map}
 use Rattle.serde_json.specs.View.{view}
-use Rattle.std.specs.List.{AllByRecursion}
-use Rattle.zarrs_chunk_axes.specs.InBounds.{AreBelow}
-use Rattle.zarrs_chunk_base.specs.Dimension.{grid_sizes}
-use Rattle.zarrs_chunk_plan.specs.Rechunking.{all_chunks_box}
 use Rattle.zarrs_chunk_plan.specs.SomeChunks.{AreSomeChunks}
-use Rattle.zarrs_chunk_questions.proofs.Listed.{each_of_some}
-use Rattle.zarrs_chunk_questions.proofs.WalkPages.{all_below_grid, walked_page}
+use Rattle.zarrs_chunk_questions.proofs.WalkPages.{chunks_wanted, items_more, one_pushed, too_many_items}
+use Rattle.zarrs_chunk_questions.proofs.pages.items_from.Goals.{in-Some+in_ok-push, in_default}
 use Rattle.zarrs_chunk_questions.proofs.pages.items_from.Goals as goal
 
-pub item_trees-requires : goal.item_trees-requires
-item_trees-requires g c =
+pub returns-then-is_too_many : goal.returns-then-is_too_many
+returns-then-is_too_many g c =
     let ds = g.G.ChunkGridTraits.dimensions c.args.grid.now in
-    let some = c.in_ok-some.some in
-    let are = subst (λ b. AreSomeChunks b c.args.first c.wanted.result some) c.in_ok-chunks.ensures.counted c.in_ok-some.ensures in
-    let each = each_of_some (all_chunks_box ds) c.args.first some (AreBelow (grid_sizes ds)) c.wanted.result are (all_below_grid ds) in
-    subst (AllByRecursion (λ chunk. AreBelow (grid_sizes ds) chunk.items)) (sym c.deref.ensures.value) each
-
-pub returns : goal.returns
-returns g c =
-    let ds = g.G.ChunkGridTraits.dimensions c.args.grid.now in
+    let walk = c.args.walk in
+    let first = c.args.first in
     let limits = c.args.limits.now in
-    let some = c.in_ok-some.some in
-    let are = subst (λ b. AreSomeChunks b c.args.first c.wanted.result some) c.in_ok-chunks.ensures.counted c.in_ok-some.ensures in
-    let counted : c.len.result ≡ length some.chunks.items = search rules in
-    walked_page c.args.walk ds c.args.first limits.most limits.too_many c.len.result some (map view c.in_ok-items.items.items) c.in_ok-page.page
-    (rw c.wanted.ensures at are) (rw c.deref.ensures.value at c.in_ok-items.ensures)
-    counted c.in_ok-page.ensures
+    let passed = c.loop-passed.passed in
+    let items = c.loop-passed.items.items in
+    let found = c.in_ok-item.field-0 in
+    let (few, same) = c.loop-passed.invariant in
+    let below = c.loop-passed-test.true in
+    let all = (chunks_wanted ds first 0 c.in_ok-some.some
+    (subst (λ b. AreSomeChunks b first 0 c.in_ok-some.some) c.in_ok-chunks.ensures.counted c.in_ok-some.ensures)).0
+    in
+    let now : c.match-branch-4.items.items ≡ items ++ option_to_list found =
+    elim c.match-branch-4.branch [
+      | in-Some+in_ok-push w ↦ ap (λ v. v.items) w.items-is ∙ w.in_ok-push.ensures.items ∙ sym (ap (λ o. items ++ option_to_list o) w.in-Some.is)
+      | in_default w ↦ ap (λ v. v.items) w.items-is ∙ sym (append-nil items) ∙ sym (ap (λ o. items ++ option_to_list o) w.in_default.is)
+    ]
+    in
+    let more = one_pushed items c.match-branch-4.items.items found _ _ same c.in_ok-item.ensures now ∙ sym (items_more walk ds first passed (omega arith)) in
+    let counted : c.len.result ≡ length c.match-branch-4.items.items = search rules in
+    let full : c.len.result ≡ limits.too_many = search rules in
+    too_many_items walk ds first limits.most passed c.len.result limits.too_many (map view c.match-branch-4.items.items) (omega arith) more
+    (counted ∙ sym (length-map c.match-branch-4.items.items view)) full
+
+pub loop-passed-preserved : goal.loop-passed-preserved
+loop-passed-preserved g c =
+    let ds = g.G.ChunkGridTraits.dimensions c.args.grid.now in
+    let walk = c.args.walk in
+    let first = c.args.first in
+    let passed = c.loop-passed.passed in
+    let items = c.loop-passed.items.items in
+    let found = c.in_ok-item.field-0 in
+    let (few, same) = c.loop-passed.invariant in
+    let below = c.loop-passed-test.true in
+    let all = (chunks_wanted ds first 0 c.in_ok-some.some
+    (subst (λ b. AreSomeChunks b first 0 c.in_ok-some.some) c.in_ok-chunks.ensures.counted c.in_ok-some.ensures)).0
+    in
+    let now : c.match-branch-4.items.items ≡ items ++ option_to_list found =
+    elim c.match-branch-4.branch [
+      | in-Some+in_ok-push w ↦ ap (λ v. v.items) w.items-is ∙ w.in_ok-push.ensures.items ∙ sym (ap (λ o. items ++ option_to_list o) w.in-Some.is)
+      | in_default w ↦ ap (λ v. v.items) w.items-is ∙ sym (append-nil items) ∙ sym (ap (λ o. items ++ option_to_list o) w.in_default.is)
+    ]
+    in (
+      omega arith,
+      one_pushed items c.match-branch-4.items.items found _ _ same c.in_ok-item.ensures now
+          ∙ sym (items_more walk ds first passed (omega arith)),
+    )

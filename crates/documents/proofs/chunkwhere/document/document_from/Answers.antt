@@ -5,7 +5,7 @@ use Rattle.serde_json.specs.Find.{get}
 use Rattle.serde_json.specs.View.{view}
 use Rattle.zarrs_chunk_base.specs.Json.{list_of, size_of}
 use Rattle.documents.specs.chunkwhere.Document.{form_in, indices_in, keys_in, lists_in, texts_of}
-use Rattle.documents.proofs.Readings.{stops_or}
+use Rattle.documents.proofs.Readings.{both, later, stops_or}
 use Rattle.documents.proofs.chunkwhere.document.document_from.Goals as goal
 
 -- the members that are read after the two that were taken out are those of the document
@@ -33,19 +33,8 @@ pub returns-in_default : goal.returns-in_default
 returns-in_default c =
     let none : indices_in (view c.args.tree) ≡ None =
     sym (indices_left _ _ c.in_ok-stored.ensures.others) ∙ sym c.in_ok-indices.ensures ∙ ap (option_map (λ v. lists_in v.items)) c.in_default.is in
-    inr (inr (
-      _,
-      c.in_ok-check_members.ensures,
-      inr (
-        _,
-        c.in_ok-required_member.ensures,
-        inr (
-          _,
-          c.in_ok-shape.ensures,
-          inr (_, c.in_ok-stored.ensures.stored, inl (refl, none)),
-        ),
-      ),
-    ))
+    inr (later _ c.in_ok-check_members.ensures (later _ c.in_ok-required_member.ensures (later _ c.in_ok-shape.ensures
+    (later _ c.in_ok-stored.ensures.stored (inl (refl, none))))))
 
 pub returns-in_default-keys : goal.returns-in_default-keys
 returns-in_default-keys c =
@@ -54,15 +43,8 @@ returns-in_default-keys c =
     let none : keys_in (view c.args.tree) ≡ None =
     sym (keys_left _ _ c.in_ok-stored.ensures.others) ∙ sym c.in_ok-keys.ensures
     ∙ ap (option_map (λ v. map string_bytes v.items)) c.in_default-keys.is in
-    inr (inr (
-      _,
-      c.in_ok-check_members.ensures,
-      inr (
-        _,
-        c.in_ok-required_member.ensures,
-        inr (_, c.in_ok-shape.ensures, inr (_, c.in_ok-stored.ensures.stored, inr (_, indices, inl (refl, none)))),
-      ),
-    ))
+    inr (later _ c.in_ok-check_members.ensures (later _ c.in_ok-required_member.ensures (later _ c.in_ok-shape.ensures
+    (later _ c.in_ok-stored.ensures.stored (later _ indices (inl (refl, none)))))))
 
 pub returns : goal.returns
 returns c =
@@ -70,16 +52,6 @@ returns c =
     sym (indices_left _ _ c.in_ok-stored.ensures.others) ∙ sym c.in_ok-indices.ensures ∙ ap (option_map (λ v. lists_in v.items)) c.in-Some.is in
     let keys : keys_in (view c.args.tree) ≡ Some (map string_bytes c.in-Some-keys.keys.items) =
     sym (keys_left _ _ c.in_ok-stored.ensures.others) ∙ sym c.in_ok-keys.ensures
-    ∙ ap (option_map (λ v. map string_bytes v.items)) c.in-Some-keys.is in (
-      _,
-      c.in_ok-check_members.ensures,
-      (
-        _,
-        c.in_ok-required_member.ensures,
-        (
-          _,
-          c.in_ok-shape.ensures,
-          (_, c.in_ok-stored.ensures.stored, (_, indices, (_, keys, refl))),
-        ),
-      ),
-    )
+    ∙ ap (option_map (λ v. map string_bytes v.items)) c.in-Some-keys.is in
+    both _ c.in_ok-check_members.ensures (both _ c.in_ok-required_member.ensures (both _ c.in_ok-shape.ensures
+    (both _ c.in_ok-stored.ensures.stored (both _ indices (both _ keys refl)))))

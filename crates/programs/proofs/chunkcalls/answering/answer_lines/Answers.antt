@@ -1,14 +1,9 @@
-use Rattle.std.proofs.Common.{◌≡◌, ◌∙◌, ◌<◌, [], append-nil, length, refl, subst, sym, arith}
+use Rattle.programs.proofs.chunkcalls.Common.{◌≡◌, ◌∙◌, ◌<◌, [], append-nil, length, refl, subst, sym, arith, err_from_is_err_and, on_ok_weaker}
+use Rattle.programs.proofs.chunkcalls.Common.{has_failed, watched, Memory, Read, Output, written, for_known, flushed, some_sent, HasStoppedAt}
+use Rattle.programs.proofs.chunkcalls.Common.{IsBegun}
 use Rattle.std.proofs.Math.Bool.{or-false}
-use Rattle.std.proofs.lemmas.Result.{err_from_is_err_and, on_ok_weaker}
-use Rattle.streams.specs.Watched.{has_failed, watched}
-use Rattle.streams.specs.declared.stream_fault.StreamFault.TheVariants.{Memory, Read}
-use Rattle.streams.specs.seen.Sent.{Output, written}
-use Rattle.streams.proofs.Known.{for_known}
-use Rattle.streams.proofs.Sent.{flushed, some_sent}
-use Rattle.programs.specs.chunkcalls.seen.Answered.{HasStoppedAt, IsBegun}
-use Rattle.programs.proofs.chunkcalls.PartWay.{if_err_both, part_way_at_end, part_way_at_start, part_way_sent, part_way_stopped, part_way_stopped_in, part_way_with}
-use Rattle.programs.proofs.chunkcalls.PartWay.{part_way_answered, part_way_stopped_writing, stopped_at_end}
+use Rattle.programs.proofs.chunkcalls.PartWay.{if_err_both, part_way_at_end, part_way_at_start, part_way_sent, part_way_stopped, part_way_stopped_in}
+use Rattle.programs.proofs.chunkcalls.PartWay.{part_way_with, part_way_answered, part_way_stopped_writing, stopped_at_end}
 use Rattle.programs.proofs.chunkcalls.answering.answer_lines.Goals as goal
 
 pub loop-init : goal.loop-init

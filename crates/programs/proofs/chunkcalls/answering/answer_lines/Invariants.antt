@@ -1,6 +1,4 @@
-use Rattle.std.proofs.Common.{◌≡◌, ℕ, List, [], Some}
-use Rattle.streams.specs.Watched.{has_failed, watched}
-use Rattle.streams.specs.seen.Sent.{written}
+use Rattle.programs.proofs.chunkcalls.Common.{◌≡◌, ℕ, List, [], Some, has_failed, watched, written}
 use Rattle.programs.proofs.chunkcalls.PartWay.{IsPartWay}
 use Rattle.programs.proofs.chunkcalls.answering.answer_lines.Given as goal
 

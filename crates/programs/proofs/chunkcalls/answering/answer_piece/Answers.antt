@@ -1,10 +1,6 @@
-use Rattle.std.proofs.Common.{◌≡◌, ◌≢◌, ◌∙◌, ◌+◌, ◌∷◌, ◌++◌, [], append_assoc, ap, drop, get_or, refl, subst, sym, take, arith}
-use Rattle.std.proofs.lemmas.Bool.Decides.{nat_tests}
-use Rattle.std.proofs.lemmas.List.{take-append-drop}
-use Rattle.std.proofs.lemmas.Result.{err_from_is_err_and}
-use Rattle.programs.specs.chunkcalls.Lines.{IsReplyTo}
-use Rattle.programs.specs.chunkcalls.seen.Answered.{HasStoppedAt, HasStoppedIn}
-use Rattle.streams.specs.seen.Sent.{Output, written}
+use Rattle.programs.proofs.chunkcalls.Common.{◌≡◌, ◌≢◌, ◌∙◌, ◌+◌, ◌∷◌, ◌++◌, [], append_assoc, ap, drop, get_or, refl, subst, sym, take, arith}
+use Rattle.programs.proofs.chunkcalls.Common.{nat_tests, take-append-drop, err_from_is_err_and, IsReplyTo, HasStoppedAt, HasStoppedIn, Output}
+use Rattle.programs.proofs.chunkcalls.Common.{written}
 use Rattle.programs.proofs.chunkcalls.PartWay.{no_byte, one_byte, one_line, stopped_at, stopped_behind, take_next}
 use Rattle.programs.proofs.chunkcalls.answering.answer_piece.Goals as goal
 

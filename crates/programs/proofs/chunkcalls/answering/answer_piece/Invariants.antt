@@ -1,6 +1,4 @@
-use Rattle.std.proofs.Common.{◌≡◌, ℕ, List, take}
-use Rattle.programs.specs.chunkcalls.seen.Answered.{HasAnsweredPiece, IsBegun}
-use Rattle.streams.specs.seen.Sent.{written}
+use Rattle.programs.proofs.chunkcalls.Common.{◌≡◌, ℕ, List, take, HasAnsweredPiece, IsBegun, written}
 use Rattle.programs.proofs.chunkcalls.answering.answer_piece.Given as goal
 
 -- the lines that ended in the bytes so far are answered, and no write failed

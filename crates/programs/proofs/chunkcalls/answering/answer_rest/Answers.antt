@@ -1,10 +1,5 @@
-use Rattle.std.proofs.Common.{◌≡◌, ◌<◌, [], length, subst, sym, arith}
-use Rattle.std.proofs.lemmas.Bool.Decides.{nat_tests}
-use Rattle.std.proofs.lemmas.List.{nil_from_length}
-use Rattle.std.proofs.lemmas.Result.{on_ok_weaker}
-use Rattle.programs.specs.chunkcalls.Lines.{AreAnswers, last_line, no_line}
-use Rattle.streams.specs.seen.Sent.{written}
-use Rattle.streams.proofs.Sent.{sends_nothing}
+use Rattle.programs.proofs.chunkcalls.Common.{◌≡◌, ◌<◌, [], length, subst, sym, arith, nat_tests, nil_from_length, on_ok_weaker, AreAnswers}
+use Rattle.programs.proofs.chunkcalls.Common.{last_line, no_line, written, sends_nothing}
 use Rattle.programs.proofs.chunkcalls.KeptLines.{kept_bytes, of_whole}
 use Rattle.programs.proofs.chunkcalls.answering.answer_rest.Goals as goal
 

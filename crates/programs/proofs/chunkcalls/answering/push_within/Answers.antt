@@ -1,5 +1,4 @@
-use Rattle.std.proofs.Common.{◌<◌, ◌≤◌, length, arith}
-use Rattle.programs.specs.chunkcalls.Lines.{longest_line}
+use Rattle.programs.proofs.chunkcalls.Common.{◌<◌, ◌≤◌, length, arith, longest_line}
 use Rattle.programs.proofs.chunkcalls.KeptLines.{none_kept, one_kept}
 use Rattle.programs.proofs.chunkcalls.answering.push_within.Goals as goal
 

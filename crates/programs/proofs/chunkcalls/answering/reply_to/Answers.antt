@@ -1,5 +1,4 @@
-use Rattle.std.proofs.Common.{◌≤◌, codes, length, refl, arith}
-use Rattle.programs.specs.chunkcalls.Lines.{answered, longest_line}
+use Rattle.programs.proofs.chunkcalls.Common.{◌≤◌, codes, length, refl, arith, answered, longest_line}
 use Rattle.programs.proofs.chunkcalls.answering.reply_to.Goals as goal
 
 pub returns-then-line-gt-LONGEST_LINE-clause-one : goal.returns-then-line-gt-LONGEST_LINE-clause-one

@@ -1,5 +1,4 @@
-use Rattle.std.proofs.Common.{◌≡◌, map, take}
-use Rattle.std.specs.Int.NonZero.{non_zero_u64_get}
+use Rattle.programs.proofs.chunkplan.Common.{◌≡◌, map, take, non_zero_u64_get}
 use Rattle.programs.proofs.chunkplan.between.numbers_of.Given as goal
 
 -- the numbers so far are those of the edges so far

@@ -1,7 +1,5 @@
-use Rattle.std.proofs.Common.{◌≡◌, ◌∙◌, ℕ, suc, ◌+◌, ◌<◌, Option, Some, None, sym, arith}
+use Rattle.programs.proofs.chunkplan.Common.{◌≡◌, ◌∙◌, ℕ, suc, ◌+◌, ◌<◌, Option, Some, None, sym, arith, counted, counted_cases}
 use Rattle.std.specs.Option.{SomeIff}
-use Rattle.zarrs_chunk_plan.specs.Counted.{counted}
-use Rattle.zarrs_chunk_plan.proofs.ByNumber.{counted_cases}
 use Rattle.programs.proofs.chunkplan.copying.following.Goals as goal
 
 next : (k n : ℕ) (more : Option ℕ) → Some k ≡ counted n → SomeIff more (k + 1 < 18446744073709551616) (k + 1) → more ≡ counted (suc n)

@@ -1,18 +1,10 @@
-use Rattle.std.proofs.Common.{◌≡◌, ◌∙◌, ℕ, suc, List, [], ◌∷◌, ◌++◌, Err, Ok, Result, ap, length, refl, sym, arith}
-use Rattle.std.proofs.lemmas.Slice.Zip.{AllZip-long}
-use Rattle.std.specs.List.{AllZip}
-use Rattle.zarrs_chunk_plan.specs.Counted.{counted}
+use Rattle.programs.proofs.chunkplan.Common.{◌≡◌, ◌∙◌, ℕ, suc, List, [], ◌∷◌, ◌++◌, Err, Ok, Result, ap, length, refl, sym, arith, AllZip-long}
+use Rattle.programs.proofs.chunkplan.Common.{AllZip, counted, all_changes, changes_to_come, IsChangeOf, changes_ahead, first_change, last_change}
+use Rattle.programs.proofs.chunkplan.Common.{one_more_change, chained_in, change_line, lines_from, resize_lines, Output, written, RunFault, Memory}
+use Rattle.programs.proofs.chunkplan.Common.{sends_nothing}
 use Rattle.zarrs_chunk_plan.specs.declared.resize.plan.ChunkChange.{ChunkChange}
-use Rattle.zarrs_chunk_plan.specs.seen.Changes.{all_changes, changes_to_come}
-use Rattle.zarrs_chunk_plan.proofs.SomeResizes.{IsChangeOf, changes_ahead, first_change, last_change, one_more_change}
-use Rattle.zarrs_chunks.specs.seen.Grids.{chained_in}
-use Rattle.programs.specs.chunkplan.Line.{change_line, lines_from, resize_lines}
 use Rattle.programs.specs.chunkplan.seen.Opened.{dimensions_in, key_in}
 use Rattle.programs.specs.chunkplan.seen.Steps.{StepLeaves}
-use Rattle.streams.specs.seen.Sent.{Output, written}
-use Rattle.programs.specs.declared.chunkplan.run_fault.RunFault.{RunFault}
-use Rattle.programs.specs.declared.chunkplan.run_fault.RunFault.TheVariants.{Memory}
-use Rattle.streams.proofs.Sent.{sends_nothing}
 use Rattle.programs.proofs.chunkplan.Begun.{keys_in}
 use Rattle.programs.proofs.chunkplan.Exits.{handed}
 use Rattle.programs.proofs.chunkplan.Numbered.{IsLineOf, IsTextOf, counted_first, way_ends, way_goes_on, way_memory, way_stops}

@@ -1,11 +1,6 @@
-use Rattle.std.proofs.Common.{◌≡◌, ℕ, length}
-use Rattle.zarrs_chunk_plan.proofs.SomeResizes.{ChangesHaveCome}
-use Rattle.zarrs_chunk_plan.specs.Counted.{counted}
-use Rattle.zarrs_chunk_plan.specs.seen.Changes.{all_changes}
-use Rattle.programs.specs.chunkplan.Line.{change_line}
+use Rattle.programs.proofs.chunkplan.Common.{◌≡◌, ℕ, length, ChangesHaveCome, counted, all_changes, change_line, written}
 use Rattle.programs.specs.chunkplan.seen.Opened.{dimensions_in, key_in}
 use Rattle.programs.specs.chunkplan.seen.Steps.{HasSent}
-use Rattle.streams.specs.seen.Sent.{written}
 use Rattle.programs.proofs.chunkplan.Numbered.{Came}
 use Rattle.programs.proofs.chunkplan.copying.write_changes.Given as goal
 

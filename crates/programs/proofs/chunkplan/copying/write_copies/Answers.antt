@@ -1,13 +1,8 @@
-use Rattle.std.proofs.Common.{◌≡◌, ◌∙◌, ℕ, suc, List, [], ◌∷◌, ◌++◌, Err, ap, length, option_map, refl, arith}
-use Rattle.zarrs_chunk_plan.specs.Counted.{counted}
-use Rattle.zarrs_chunk_plan.specs.Rechunking.{Group}
-use Rattle.zarrs_chunk_parts.specs.declared.part.Part.{Part}
-use Rattle.zarrs_chunk_plan.specs.seen.Copies.{all_targets}
-use Rattle.zarrs_chunk_plan.proofs.Copied.{first_move, last_move, one_more_move}
+use Rattle.programs.proofs.chunkplan.Common.{◌≡◌, ◌∙◌, ℕ, suc, List, [], ◌∷◌, ◌++◌, Err, ap, length, option_map, refl, arith, counted, Group, Part}
+use Rattle.programs.proofs.chunkplan.Common.{all_targets, first_move, last_move, one_more_move, Output, written, sends_nothing}
+use Rattle.zarrs_chunk_plan.proofs.Walked.{planned_meet}
 use Rattle.programs.specs.chunkplan.seen.Missing.{line_unless_stored}
 use Rattle.programs.specs.chunkplan.seen.Opened.{PartsToCome, dimensions_in, key_in}
-use Rattle.streams.specs.seen.Sent.{Output, written}
-use Rattle.streams.proofs.Sent.{sends_nothing}
 use Rattle.programs.proofs.chunkplan.Begun.{copies_ahead}
 use Rattle.programs.proofs.chunkplan.Exits.{handed}
 use Rattle.programs.proofs.chunkplan.Numbered.{IsLineOf, way_ends, way_goes_on, way_memory, way_stops}
@@ -58,11 +53,8 @@ loop-group-preserved g c = λ begin is_first.
 
 pub write_unless_stored-requires-clause-meet : goal.write_unless_stored-requires-clause-meet
 write_unless_stored-requires-clause-meet g c =
-    let (n, number_is, (text, (came, (chunks, left, are, about, (same_first, can)), many, lines), sends, same)) =
-    c.loop-group.invariant c.requires.numbered.0 c.requires.numbered.1
-    in
     let gives = rw c.in_ok-group.was at c.in-Some.ensures.steps in
-    (gives.from can).meet
+    planned_meet dimensions_in _ _ _ c.in_ok-group.field-0.from gives.from
 
 -- ---- where it stops
 

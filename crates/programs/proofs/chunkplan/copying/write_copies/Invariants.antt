@@ -1,9 +1,6 @@
-use Rattle.std.proofs.Common.{◌≡◌, ℕ, length, option_map}
-use Rattle.zarrs_chunk_plan.specs.Counted.{counted}
-use Rattle.zarrs_chunk_plan.specs.seen.Copies.{all_targets}
+use Rattle.programs.proofs.chunkplan.Common.{◌≡◌, ℕ, length, option_map, counted, all_targets, written}
 use Rattle.programs.specs.chunkplan.seen.Missing.{line_unless_stored}
 use Rattle.programs.specs.chunkplan.seen.Steps.{HasSent}
-use Rattle.streams.specs.seen.Sent.{written}
 use Rattle.programs.proofs.chunkplan.Begun.{CopiesHaveCome}
 use Rattle.programs.proofs.chunkplan.Numbered.{Came}
 use Rattle.programs.proofs.chunkplan.copying.write_copies.Given as goal

@@ -1,16 +1,7 @@
-use Rattle.std.proofs.Common.{◌≡◌, ◌∙◌, ℕ, List, [], ◌++◌, Option, Ok, Err, append_assoc, refl, sym}
-use Rattle.zarrs_chunk_base.specs.ArraySubset.{IsBox}
-use Rattle.zarrs_chunk_keys.specs.declared.chunk_key_encoding.named.ChunkKeyEncoding.{ChunkKeyEncoding}
-use Rattle.zarrs_chunk_plan.specs.Counted.{counted}
-use Rattle.zarrs_chunk_parts.specs.declared.part.Part.{Part}
-use Rattle.zarrs_chunk_plan.specs.declared.read.walk.Parts.{Parts}
-use Rattle.zarrs_chunk_plan.proofs.Walked.{at_first}
-use Rattle.zarrs_chunks.specs.declared.chunk_grid.named.ChunkGrid.{ChunkGrid}
-use Rattle.programs.specs.chunkplan.Line.{group_line, lines_from}
+use Rattle.programs.proofs.chunkplan.Common.{◌≡◌, ◌∙◌, ℕ, List, [], ◌++◌, Option, Ok, Err, append_assoc, refl, sym, IsBox, ChunkKeyEncoding, counted}
+use Rattle.programs.proofs.chunkplan.Common.{Part, Parts, at_first, ChunkGrid, group_line, lines_from, begin_of_line, end_of_line, piece_text, Order}
+use Rattle.programs.proofs.chunkplan.Common.{written}
 use Rattle.programs.specs.chunkplan.seen.Opened.{CanGiveParts, PartsToCome, dimensions_in, key_in}
-use Rattle.programs.specs.chunkplan.seen.Pieces.{begin_of_line, end_of_line, piece_text}
-use Rattle.programs.specs.declared.chunkplan.line.Order.{Order}
-use Rattle.streams.specs.seen.Sent.{written}
 use Rattle.programs.proofs.chunkplan.Begun.{parts_ahead}
 use Rattle.programs.proofs.chunkplan.Behind.{Begins, Behind, ends_behind, sent_behind, stops_behind, stops_whole}
 use Rattle.programs.proofs.chunkplan.Exits.{handed}

@@ -1,11 +1,6 @@
-use Rattle.std.proofs.Common.{◌≡◌, ◌∙◌, ℕ, suc, List, [], ◌∷◌, ◌++◌, Err, ap, refl, arith}
-use Rattle.zarrs_chunk_plan.specs.Counted.{counted}
-use Rattle.zarrs_chunk_parts.specs.declared.part.Part.{Part}
-use Rattle.zarrs_chunk_plan.proofs.Walked.{at_first, at_last, one_more}
+use Rattle.programs.proofs.chunkplan.Common.{◌≡◌, ◌∙◌, ℕ, suc, List, [], ◌∷◌, ◌++◌, Err, ap, refl, arith, counted, Part, at_first, at_last, one_more}
+use Rattle.programs.proofs.chunkplan.Common.{text_as, Output, written, sends_nothing}
 use Rattle.programs.specs.chunkplan.seen.Opened.{dimensions_in, key_in}
-use Rattle.programs.specs.chunkplan.seen.Pieces.{text_as}
-use Rattle.streams.specs.seen.Sent.{Output, written}
-use Rattle.streams.proofs.Sent.{sends_nothing}
 use Rattle.programs.proofs.chunkplan.Begun.{parts_ahead}
 use Rattle.programs.proofs.chunkplan.Exits.{handed}
 use Rattle.programs.proofs.chunkplan.Numbered.{IsLineOf, way_ends, way_goes_on, way_memory, way_stops}

@@ -1,8 +1,5 @@
-use Rattle.std.proofs.Common.{◌≡◌, ℕ}
-use Rattle.zarrs_chunk_plan.specs.Counted.{counted}
-use Rattle.programs.specs.chunkplan.seen.Pieces.{text_as}
+use Rattle.programs.proofs.chunkplan.Common.{◌≡◌, ℕ, counted, text_as, written}
 use Rattle.programs.specs.chunkplan.seen.Steps.{HasSent}
-use Rattle.streams.specs.seen.Sent.{written}
 use Rattle.programs.proofs.chunkplan.Begun.{PartsHaveCome}
 use Rattle.programs.proofs.chunkplan.Numbered.{Came}
 use Rattle.programs.proofs.chunkplan.copying.write_parts.Given as goal

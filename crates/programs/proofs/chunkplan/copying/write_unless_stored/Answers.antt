@@ -1,9 +1,5 @@
-use Rattle.std.proofs.Common.{◌∙◌, [], cond, ap, refl, sym}
-use Rattle.zarrs_chunk_plan.proofs.Walked.{at_first}
-use Rattle.programs.specs.chunkplan.Line.{group_line}
+use Rattle.programs.proofs.chunkplan.Common.{◌∙◌, [], cond, ap, refl, sym, at_first, group_line, written, sends_nothing}
 use Rattle.programs.specs.chunkplan.seen.Opened.{dimensions_in, key_in}
-use Rattle.streams.specs.seen.Sent.{written}
-use Rattle.streams.proofs.Sent.{sends_nothing}
 use Rattle.programs.proofs.chunkplan.Begun.{parts_ahead}
 use Rattle.programs.proofs.chunkplan.Steps.{text_follows}
 use Rattle.programs.proofs.chunkplan.copying.write_unless_stored.Goals as goal

@@ -1,5 +1,4 @@
-use Rattle.std.proofs.Common.{◌∙◌, ◌++◌, [], ap, codes}
-use Rattle.programs.specs.chunkplan.CountsLine.{between_text, flag_text}
+use Rattle.programs.proofs.chunkplan.Common.{◌∙◌, ◌++◌, [], ap, codes, between_text, flag_text}
 use Rattle.programs.proofs.chunkplan.Appended.{more}
 use Rattle.programs.proofs.chunkplan.counting.stages_line.Goals as goal
 

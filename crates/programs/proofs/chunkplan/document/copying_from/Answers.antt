@@ -1,15 +1,11 @@
-use Rattle.std.proofs.Common.{◌≡◌, None, Some, Err, codes, inl, inr, refl, rules, ⊎_elim}
-use Rattle.std.proofs.lemmas.Result.{MatchResult-weaker}
-use Rattle.serde_json.specs.Find.{get}
-use Rattle.serde_json.specs.View.{view}
-use Rattle.programs.specs.chunkplan.Document.{copying_in}
-use Rattle.programs.proofs.chunkplan.Exits.{exits_told}
+use Rattle.programs.proofs.chunkplan.Common.{◌≡◌, None, Some, Err, codes, inl, inr, refl, rules, ⊎_elim, MatchResult-weaker, get, view, copying_in}
+use Rattle.programs.proofs.chunkplan.Common.{of_document, stops_told}
 use Rattle.programs.proofs.chunkplan.document.copying_from.Goals as goal
 
 pub returns-in_err-ranges : goal.returns-in_err-ranges
 returns-in_err-ranges c =
     rw c.in_default.is
-    (exits_told _ (λ fault. copying_in (view c.args.tree.now) None (Err fault)) _ _ c.from_residual-in_err-ranges.ensures.1 c.in_err-ranges.ensures
+    (stops_told _ (copying_in (view c.args.tree.now) None) _ of_document _ c.from_residual-in_err-ranges.ensures.1 _ c.in_err-ranges.ensures
     (λ is. inr (_, c.in_ok-subset.ensures, inr (_, c.in_ok-clip.ensures, inl (_, is, refl)))))
 
 pub returns-in-Some-get : goal.returns-in-Some-get

@@ -1,24 +1,21 @@
-use Rattle.std.proofs.Common.{None, Some, Err, inl, inr, refl, ⊎_elim}
-use Rattle.std.proofs.lemmas.Result.{MatchResult-weaker}
-use Rattle.serde_json.specs.View.{view}
-use Rattle.programs.specs.chunkplan.Document.{rechunking_in}
-use Rattle.programs.proofs.chunkplan.Exits.{exits_or, exits_told}
+use Rattle.programs.proofs.chunkplan.Common.{None, Some, Err, inl, inr, refl, ⊎_elim, MatchResult-weaker, view, rechunking_in, of_document, stops_or}
+use Rattle.programs.proofs.chunkplan.Common.{stops_told}
 use Rattle.programs.proofs.chunkplan.document.rechunking_to.Goals as goal
 
 pub returns-in_err-check_target : goal.returns-in_err-check_target
 returns-in_err-check_target c =
-    exits_or _ (λ fault. rechunking_in (view c.args.tree.now) (view c.args.target) (Err fault)) _ _ c.from_residual.ensures.1
+    stops_or _ (rechunking_in (view c.args.tree.now) (view c.args.target)) _ _ c.from_residual.ensures.1 _
     c.in_err-check_target.ensures inl
 
 pub returns-in_err-most : goal.returns-in_err-most
 returns-in_err-most c =
-    exits_told _ (λ fault. rechunking_in (view c.args.tree.now) (view c.args.target) (Err fault)) _ _ c.from_residual-in_err-most.ensures.1
+    stops_told _ (rechunking_in (view c.args.tree.now) (view c.args.target)) _ of_document _ c.from_residual-in_err-most.ensures.1 _
     c.in_err-most.ensures (λ is. inr (_, c.in_ok-check_target.ensures, inr (_, c.in_ok-stored.ensures, inl (_, is, refl))))
 
 pub returns-in_err-stage-in-Some : goal.returns-in_err-stage-in-Some
 returns-in_err-stage-in-Some c =
     let bound = rw c.in-Some.is at c.in_ok-most.ensures in
-    exits_told _ (λ fault. rechunking_in (view c.args.tree.now) (view c.args.target) (Err fault)) _ _ c.from_residual-in_err-stage-in-Some.ensures.1
+    stops_told _ (rechunking_in (view c.args.tree.now) (view c.args.target)) _ of_document _ c.from_residual-in_err-stage-in-Some.ensures.1 _
     c.in_err-stage-in-Some.ensures
     (λ is. inr (_, c.in_ok-check_target.ensures, inr (_, c.in_ok-stored.ensures, inr (Some c.in-Some.most, bound, inl (_, is, refl)))))
 

@@ -1,30 +1,24 @@
-use Rattle.std.proofs.Common.{Err, inl, refl}
-use Rattle.serde_json.specs.View.{view}
-use Rattle.programs.specs.chunkplan.Document.{region_in}
-use Rattle.programs.proofs.chunkplan.Exits.{both, exits_or, exits_told, later}
+use Rattle.programs.proofs.chunkplan.Common.{Err, inl, refl, view, region_in, of_document, both, later, stops_or, stops_told}
 use Rattle.programs.proofs.chunkplan.document.region_to.Goals as goal
 
 pub returns-in_err-check_type : goal.returns-in_err-check_type
 returns-in_err-check_type c =
-    exits_or _ (λ fault. region_in (view c.args.tree.now) (view c.args.target) (view c.args.subset.now) (Err fault)) _ _ c.from_residual.ensures.1
+    stops_or _ (region_in (view c.args.tree.now) (view c.args.target) (view c.args.subset.now)) _ _ c.from_residual.ensures.1 _
     c.in_err-check_type.ensures inl
 
 pub returns-in_err-target : goal.returns-in_err-target
 returns-in_err-target c =
-    exits_told _ (λ fault. region_in (view c.args.tree.now) (view c.args.target) (view c.args.subset.now) (Err fault)) _ _
-    c.from_residual-in_err-target.ensures.1 c.in_err-target.ensures
+    stops_told _ (region_in (view c.args.tree.now) (view c.args.target) (view c.args.subset.now)) _ of_document _ c.from_residual-in_err-target.ensures.1 _ c.in_err-target.ensures
     (λ is. later _ c.in_ok-check_type.ensures (later _ c.in_ok-shape.ensures (inl (_, is, refl))))
 
 pub returns-in_err-region : goal.returns-in_err-region
 returns-in_err-region c =
-    exits_or _ (λ fault. region_in (view c.args.tree.now) (view c.args.target) (view c.args.subset.now) (Err fault)) _ _
-    c.from_residual-in_err-region.ensures.1 c.in_err-region.ensures
+    stops_or _ (region_in (view c.args.tree.now) (view c.args.target) (view c.args.subset.now)) _ _ c.from_residual-in_err-region.ensures.1 _ c.in_err-region.ensures
     (λ is. later _ c.in_ok-check_type.ensures (later _ c.in_ok-shape.ensures (later _ c.in_ok-target.ensures (inl is))))
 
 pub returns-in_err-at : goal.returns-in_err-at
 returns-in_err-at c =
-    exits_told _ (λ fault. region_in (view c.args.tree.now) (view c.args.target) (view c.args.subset.now) (Err fault)) _ _
-    c.from_residual-in_err-at.ensures.1 c.in_err-at.ensures
+    stops_told _ (region_in (view c.args.tree.now) (view c.args.target) (view c.args.subset.now)) _ of_document _ c.from_residual-in_err-at.ensures.1 _ c.in_err-at.ensures
     (λ is. later _ c.in_ok-check_type.ensures (later _ c.in_ok-shape.ensures (later _ c.in_ok-target.ensures
     (later _ c.in_ok-region.ensures (inl (_, is, refl))))))
 

@@ -1,5 +1,4 @@
-use Rattle.std.proofs.Common.{◌≡◌, ◌≤◌, ◌+◌, length}
-use Rattle.programs.specs.chunkplan.Keys.{closed_length}
+use Rattle.programs.proofs.chunkplan.Common.{◌≡◌, ◌≤◌, ◌+◌, length, closed_length}
 use Rattle.programs.proofs.chunkplan.keys.closed_length.Given as goal
 
 -- what was counted and what is to be counted of the rest are all

@@ -1,11 +1,6 @@
-use Rattle.std.proofs.Common.{◌≡◌, ◌∙◌, ◌++◌, [], ap, refl}
-use Rattle.std.specs.Io.BufRead.{drop_through, take_through}
-use Rattle.streams.specs.Watched.{watched}
-use Rattle.programs.specs.chunkplan.Keys.{behind, here, unended}
+use Rattle.programs.proofs.chunkplan.Common.{◌≡◌, ◌∙◌, ◌++◌, [], ap, refl, drop_through, take_through, watched, behind, here, unended, left}
+use Rattle.programs.proofs.chunkplan.Common.{for_known, nothing_left}
 use Rattle.programs.specs.chunkplan.seen.Missing.{with_line}
-use Rattle.streams.specs.seen.Lines.{left}
-use Rattle.streams.proofs.Known.{for_known}
-use Rattle.streams.proofs.LineBytes.{nothing_left}
 use Rattle.programs.proofs.chunkplan.Exits.{handed}
 use Rattle.programs.proofs.chunkplan.KeyLines.{key_stops, no_more_lines, one_more_line, reading_stops_keys}
 use Rattle.programs.proofs.chunkplan.keys.note_keys.Goals as goal

@@ -1,9 +1,6 @@
-use Rattle.std.proofs.Common.{◌≡◌, [], ℕ, List, Some}
-use Rattle.streams.specs.Watched.{has_failed, watched}
-use Rattle.programs.specs.chunkplan.Keys.{IsFirstNoText}
+use Rattle.programs.proofs.chunkplan.Common.{◌≡◌, [], ℕ, List, Some, has_failed, watched, IsFirstNoText, left}
 use Rattle.programs.specs.chunkplan.seen.Missing.{HaveNoted}
 use Rattle.programs.specs.chunkplan.seen.Opened.{dimensions_of, key_of}
-use Rattle.streams.specs.seen.Lines.{left}
 use Rattle.programs.proofs.chunkplan.KeyLines.{HaveCome}
 use Rattle.programs.proofs.chunkplan.keys.note_keys.Given as goal
 

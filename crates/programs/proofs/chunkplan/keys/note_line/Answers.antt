@@ -1,6 +1,4 @@
-use Rattle.std.proofs.Common.{◌≡◌, ◌≢◌, ◌∙◌, ◌++◌, ◌==◌, [], ap, length, sym, true≢false}
-use Rattle.programs.specs.chunkplan.Keys.{foreign_json}
-use Rattle.programs.specs.chunkplan.Line.{line_of}
+use Rattle.programs.proofs.chunkplan.Common.{◌≡◌, ◌≢◌, ◌∙◌, ◌++◌, ◌==◌, [], ap, length, sym, true≢false, foreign_json, line_of}
 use Rattle.programs.specs.chunkplan.seen.Opened.{dimensions_of, key_of}
 use Rattle.programs.proofs.chunkplan.KeyLines.{other_noted, own_noted, with_key}
 use Rattle.programs.proofs.chunkplan.keys.note_line.Goals as goal

@@ -1,7 +1,4 @@
-use Rattle.std.proofs.Common.{◌≡◌, ◌∙◌, ap}
-use Rattle.programs.specs.chunkplan.seen.Pieces.{begin_of_line}
-use Rattle.programs.specs.declared.chunkplan.line.Order.TheVariants.{Source}
-use Rattle.streams.specs.OneLine.{unbroken}
+use Rattle.programs.proofs.chunkplan.Common.{◌≡◌, ◌∙◌, ap, begin_of_line, Source, unbroken}
 use Rattle.programs.proofs.chunkplan.Tokens.{then, wrote}
 use Rattle.programs.proofs.chunkplan.line.begin_of_source.Goals as goal
 

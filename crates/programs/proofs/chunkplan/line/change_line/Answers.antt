@@ -16,4 +16,4 @@ returns c =
     (then _ _ _ _ _ c.in_ok-write_held_shape-2.ensures
     (then _ _ _ _ _ c.in_ok-write_what.ensures (wrote _ _ _ c.in_ok-end_object.ensures))))))))))
     in
-    rw (all.tokens, c.new-json.ensures.tokens) at c.ended.ensures
+    rw (all.tokens, all.before, c.new-json.ensures.tokens, c.new-json.ensures.before, c.in_ok-with_capacity.ensures.items) at c.ended.ensures

@@ -1,13 +1,7 @@
-use Rattle.std.proofs.Common.{◌∙◌}
 use Rattle.programs.proofs.chunkplan.Tokens.{then, wrote}
 use Rattle.programs.proofs.chunkplan.line.end_of_source.Goals as goal
-
-pub ended-requires : goal.ended-requires
-ended-requires c =
-    let all = then _ _ _ _ _ (wrote _ _ _ c.in_ok-end_array.ensures) (wrote _ _ _ c.in_ok-end_object.ensures) in
-    all.before ∙ c.new-json.ensures.before ∙ c.in_ok-with_capacity.ensures.items
 
 pub returns : goal.returns
 returns c =
     let all = then _ _ _ _ _ (wrote _ _ _ c.in_ok-end_array.ensures) (wrote _ _ _ c.in_ok-end_object.ensures) in
-    rw (all.tokens, c.new-json.ensures.tokens) at c.ended.ensures
+    rw (all.tokens, all.before, c.new-json.ensures.tokens, c.new-json.ensures.before, c.in_ok-with_capacity.ensures.items) at c.ended.ensures

@@ -1,24 +1,7 @@
-use Rattle.std.proofs.Common.{◌∙◌, option_map}
-use Rattle.programs.specs.chunkplan.Document.{ranges_asked_of}
+use Rattle.programs.proofs.chunkplan.Common.{option_map, ranges_asked_of}
 use Rattle.programs.proofs.chunkplan.Pieces.{part_tokens}
 use Rattle.programs.proofs.chunkplan.Tokens.{then, wrote}
 use Rattle.programs.proofs.chunkplan.line.part_line.Goals as goal
-
-pub ended-requires : goal.ended-requires
-ended-requires c =
-    let all =
-    then _ _ _ _ _ (wrote _ _ _ c.in_ok-begin_object.ensures)
-    (then _ _ _ _ _ c.in_ok-write_numbers.ensures
-    (then _ _ _ _ _ c.in_ok-write_box.ensures
-    (then _ _ _ _ _ c.in_ok-write_box-2.ensures
-    (then _ _ _ _ _ c.in_ok-write_key.ensures
-    (then _ _ _ _ _ c.in_ok-write_count.ensures
-    (then _ _ _ _ _ c.in_ok-write_count-2.ensures
-    (then _ _ _ _ _ c.in_ok-write_wanted.ensures
-    (then _ _ _ _ _ c.in_ok-write_numbers-2.ensures
-    (then _ _ _ _ _ c.in_ok-write_whole.ensures (wrote _ _ _ c.in_ok-end_object.ensures))))))))))
-    in
-    all.before ∙ c.new-json.ensures.before ∙ c.in_ok-with_capacity.ensures.items
 
 pub returns : goal.returns
 returns c =
@@ -37,4 +20,4 @@ returns c =
     (then _ _ _ _ _ c.in_ok-write_whole.ensures (wrote _ _ _ c.in_ok-end_object.ensures))))))))))
     in
     rw (part_tokens c.args.number c.args.of (option_map ranges_asked_of c.args.ranges.now) c.args.part.now)
-    (rw (all.tokens, c.new-json.ensures.tokens) at c.ended.ensures)
+    (rw (all.tokens, all.before, c.new-json.ensures.tokens, c.new-json.ensures.before, c.in_ok-with_capacity.ensures.items) at c.ended.ensures)

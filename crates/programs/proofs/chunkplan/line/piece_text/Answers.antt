@@ -1,9 +1,4 @@
-use Rattle.std.proofs.Common.{◌≡◌, ◌∙◌, ◌++◌, ap}
-use Rattle.json.specs.Print.{print}
-use Rattle.json.specs.Tree.{json_tokens}
-use Rattle.programs.specs.chunkplan.Line.{piece_json}
-use Rattle.programs.specs.chunkplan.seen.Pieces.{comma_before, piece_text}
-use Rattle.streams.specs.OneLine.{unbroken}
+use Rattle.programs.proofs.chunkplan.Common.{◌≡◌, ◌∙◌, ◌++◌, ap, print, json_tokens, piece_json, comma_before, piece_text, unbroken}
 use Rattle.programs.proofs.chunkplan.Pieces.{piece_escaped, piece_tokens}
 use Rattle.programs.proofs.chunkplan.Tokens.{then, wrote}
 use Rattle.programs.proofs.chunkplan.line.piece_text.Goals as goal

@@ -1,7 +1,5 @@
-use Rattle.std.proofs.Common.{◌≡◌, ◌∙◌, ◌<◌, ◌≤◌, [], ◌∷◌, ◌++◌, ap, decimal, length, map, subst, sym, take, take_all, arith}
-use Rattle.std.proofs.lemmas.List.{map-append, take_more}
-use Rattle.json.specs.Token.{end_array, number}
-use Rattle.programs.specs.chunkplan.seen.Added.{Adds}
+use Rattle.programs.proofs.chunkplan.Common.{◌≡◌, ◌∙◌, ◌<◌, ◌≤◌, [], ◌∷◌, ◌++◌, ap, decimal, length, map, subst, sym, take, take_all, arith}
+use Rattle.programs.proofs.chunkplan.Common.{map-append, take_more, end_array, number, Adds}
 use Rattle.programs.proofs.chunkplan.Tokens.{nothing, numbers_tokens, then, wrote}
 use Rattle.programs.proofs.chunkplan.line.write_list.Goals as goal
 

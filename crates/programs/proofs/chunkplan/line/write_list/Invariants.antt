@@ -1,6 +1,4 @@
-use Rattle.std.proofs.Common.{decimal, map, take}
-use Rattle.json.specs.Token.{number}
-use Rattle.programs.specs.chunkplan.seen.Added.{Adds}
+use Rattle.programs.proofs.chunkplan.Common.{decimal, map, take, number, Adds}
 use Rattle.programs.proofs.chunkplan.line.write_list.Given as goal
 
 -- the numbers so far were written

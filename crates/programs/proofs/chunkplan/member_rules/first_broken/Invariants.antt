@@ -1,8 +1,5 @@
-use Rattle.std.proofs.Common.{IsFalse, IsTrue, drop, map}
-use Rattle.serde_json.specs.View.{view}
-use Rattle.std.specs.List.{AllByRecursion}
+use Rattle.programs.proofs.chunkplan.Common.{IsFalse, IsTrue, drop, map, view, AllByRecursion, Rule, is_broken, rule_of}
 use Rattle.zarrs_chunk_base.specs.First.{IsFirst}
-use Rattle.programs.specs.chunkplan.MemberRules.{Rule, is_broken, rule_of}
 use Rattle.programs.proofs.chunkplan.member_rules.first_broken.Given as goal
 
 -- The first of the rules that are left to be broken is the first of all; and where none of those is broken, none of all is.

@@ -1,7 +1,4 @@
-use Rattle.std.proofs.Common.{◌≡◌, Some, inr, refl, sym}
-use Rattle.std.proofs.lemmas.List.{map-id}
-use Rattle.serde_json.specs.View.{view}
-use Rattle.zarrs_chunk_base.specs.Json.{list_of, pair_of, size_of}
+use Rattle.programs.proofs.chunkplan.Common.{◌≡◌, Some, inr, refl, sym, map-id, view, list_of, pair_of, size_of}
 use Rattle.programs.proofs.chunkplan.members.read_box.Goals as goal
 
 pub returns-in-Ok : goal.returns-in-Ok

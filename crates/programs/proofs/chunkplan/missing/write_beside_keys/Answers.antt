@@ -1,27 +1,39 @@
-use Rattle.std.proofs.Common.{ap, inl, inr, refl, ⊎_elim}
-use Rattle.programs.specs.chunkplan.Document.{document_of, task_of, wanted_of}
-use Rattle.programs.specs.chunkplan.PlanFault.{IsFaultBeside, of_plan, of_source}
-use Rattle.programs.specs.chunkplan.RunFault.{of_create}
-use Rattle.programs.proofs.chunkplan.KeySteps.{early_beside}
-use Rattle.programs.proofs.chunkplan.RunOutcomes.{no_read_beside, no_write_beside}
+use Rattle.programs.proofs.chunkplan.Common.{ap, inl, inr, refl, ⊎_elim, stored_of, copying_of, document_of, task_of, wanted_of, of_create}
+use Rattle.programs.specs.chunkplan.Planned.{beside_by, copy_beside, source_in, target_in, target_shape}
+use Rattle.programs.specs.chunkplan.seen.Opened.{array_in}
+use Rattle.programs.proofs.chunkplan.KeySteps.{read_first, read_later}
+use Rattle.programs.proofs.chunkplan.RunOutcomes.{source_still, target_still}
+use Rattle.programs.proofs.chunkplan.StoredLines.{of_share}
 use Rattle.programs.proofs.chunkplan.missing.write_beside_keys.Goals as goal
 
 pub returns-in_err-array : goal.returns-in_err-array
 returns-in_err-array g c = λ bytes is.
     let document = document_of c.args.document in
-    early_beside _ (IsFaultBeside document bytes) _ _ _ (no_read_beside document bytes) (no_write_beside document bytes) _ _ c.from_residual.ensures.1
-    (⊎_elim (λ memory. inl (ap of_create memory)) inr (rw c.deref.ensures.value at c.in_err-array.ensures.refused))
-    (λ is. of_plan (of_source _ is refl))
+    read_first (source_in document) (beside_by document bytes document.wanted document.task) _ _ _ (source_still document) _ _
+    c.from_residual.ensures.1
+    (⊎_elim (λ memory. inl (ap of_create memory)) (λ is. inr (_, is, refl)) (rw c.deref.ensures.value at c.in_err-array.ensures.refused))
 
-pub returns-in-Rechunk-Lines : goal.returns-in-Rechunk-Lines
-returns-in-Rechunk-Lines g c = λ bytes is.
-    let made = rw c.deref.ensures.value at c.in_ok-array.ensures.made in
-    let sizes = rw c.deref.ensures.value at c.in_ok-array.ensures.sizes in
-    let ends = rw c.deref-in-Rechunk-Lines.ensures.value at c.write_rechunking.ensures in
-    ends (document_of c.args.document) bytes made refl sizes (ap task_of c.in-Rechunk-Lines.is-0) (ap wanted_of c.in-Rechunk-Lines.is-1) is
+pub returns-in_err-target-in-Copy-Lines : goal.returns-in_err-target-in-Copy-Lines
+returns-in_err-target-in-Copy-Lines g c = λ bytes is.
+    let document = document_of c.args.document in
+    let source = array_in c.in_ok-array.array in
+    let stored = stored_of c.in-Copy-Lines.target in
+    let copying = copying_of c.in-Copy-Lines.copying in
+    of_share document source stored copying _ (rw c.deref.ensures.value at c.in_ok-array.ensures.made)
+    (ap task_of c.in-Copy-Lines.is-0) (ap wanted_of c.in-Copy-Lines.is-1) bytes _ _ _ _ _ _
+    (read_first (target_in stored (target_shape copying document.shape)) (copy_beside copying c.in-Copy-Lines.share bytes source) _ _ _
+    (target_still stored (target_shape copying document.shape)) _ _ c.from_residual-in_err-target-in-Copy-Lines.ensures.1
+    (rw (c.target_shape.ensures, c.deref-in-Copy-Lines.ensures.value) at c.in_err-target-in-Copy-Lines.ensures.made))
 
-pub returns-in-Copy-Lines : goal.returns-in-Copy-Lines
-returns-in-Copy-Lines g c = λ bytes is.
-    let made = rw c.deref.ensures.value at c.in_ok-array.ensures.made in
-    let ends = rw c.deref-in-Copy-Lines.ensures.value at c.write_region.ensures in
-    ends (document_of c.args.document) bytes made (ap task_of c.in-Copy-Lines.is-0) (ap wanted_of c.in-Copy-Lines.is-1) is
+pub returns : goal.returns
+returns g c = λ bytes is.
+    let document = document_of c.args.document in
+    let source = array_in c.in_ok-array.array in
+    let stored = stored_of c.in-Copy-Lines.target in
+    let copying = copying_of c.in-Copy-Lines.copying in
+    of_share document source stored copying _ (rw c.deref.ensures.value at c.in_ok-array.ensures.made)
+    (ap task_of c.in-Copy-Lines.is-0) (ap wanted_of c.in-Copy-Lines.is-1) bytes _ _ _ _ _ _
+    (read_later (target_in stored (target_shape copying document.shape)) (copy_beside copying c.in-Copy-Lines.share bytes source) _ _ _
+    (array_in c.in_ok-target-in-Copy-Lines.target)
+    (rw (c.target_shape.ensures, c.deref-in-Copy-Lines.ensures.value) at c.in_ok-target-in-Copy-Lines.ensures.made) _ _ _
+    (c.write_copy.ensures bytes is))

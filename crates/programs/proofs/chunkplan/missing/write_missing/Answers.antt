@@ -1,28 +1,17 @@
-use Rattle.std.proofs.Common.{◌≡◌, ◌∙◌, ◌<◌, ◌≤◌, ◌^◌, ◌++◌, ℕ, List, [], Some, Err, ap, arith, length, refl, subst, sym}
-use Rattle.std.proofs.lemmas.Slice.Zip.{AllZip-long}
-use Rattle.zarrs_chunk_base.specs.ArraySubset.{IsBox}
-use Rattle.zarrs_chunk_base.specs.Dimension.{Dimension}
-use Rattle.zarrs_chunk_keys.specs.declared.chunk_key_encoding.named.ChunkKeyEncoding.{ChunkKeyEncoding}
-use Rattle.zarrs_chunk_plan.specs.Rechunking.{Group}
-use Rattle.zarrs_chunk_plan.specs.Region.{AreMovedInto}
+use Rattle.programs.proofs.chunkplan.Common.{◌≡◌, ◌∙◌, ◌<◌, ◌≤◌, ◌^◌, ◌++◌, ℕ, List, [], Some, Result, Ok, Err, ap, arith, length, refl, subst, sym}
+use Rattle.programs.proofs.chunkplan.Common.{AllZip-long, IsBox, Dimension, ChunkKeyEncoding, Group, AreMovedInto, Share, StoredChunks, all_targets}
+use Rattle.programs.proofs.chunkplan.Common.{region_of, targets_to_come, Knows, first_move, ChunkGrid, IsMissingText, Target, RunFault, Output}
+use Rattle.programs.proofs.chunkplan.Common.{written}
 use Rattle.zarrs_chunk_plan.specs.declared.copy.chunk_copies.Copies.{Copies}
-use Rattle.zarrs_chunk_plan.specs.declared.shares.share.Share.{Share}
-use Rattle.zarrs_chunk_plan.specs.declared.copy.stored_chunks.StoredChunks.{StoredChunks}
-use Rattle.zarrs_chunk_plan.specs.seen.Copies.{all_targets, region_of, targets_to_come}
-use Rattle.zarrs_chunk_plan.specs.seen.StoredChunks.{Knows}
-use Rattle.zarrs_chunk_plan.proofs.Copied.{first_move}
-use Rattle.zarrs_chunks.specs.declared.chunk_grid.named.ChunkGrid.{ChunkGrid}
-use Rattle.programs.specs.chunkplan.Keys.{IsMissingText}
-use Rattle.programs.specs.chunkplan.seen.Missing.{BesideKeys, HaveNoted, share_unless_stored}
-use Rattle.programs.specs.chunkplan.seen.Opened.{CanGiveCopies, CopiesToCome, dimensions_in, dimensions_of, key_in, key_of}
-use Rattle.programs.specs.declared.chunkplan.line.Order.TheVariants.{Target}
-use Rattle.streams.specs.seen.Sent.{Output, written}
+use Rattle.programs.specs.chunkplan.Planned.{missing_text}
+use Rattle.programs.specs.chunkplan.seen.Missing.{HaveNoted, share_unless_stored}
+use Rattle.programs.specs.chunkplan.seen.Opened.{CanGiveCopies, CopiesToCome, OfGroups, array_in, dimensions_in, dimensions_of, key_in, key_of}
 use Rattle.programs.proofs.chunkplan.Begun.{copies_ahead}
 use Rattle.programs.proofs.chunkplan.Behind.{Begins, Behind, ends_behind, stops_whole}
 use Rattle.programs.proofs.chunkplan.Exits.{handed}
 use Rattle.programs.proofs.chunkplan.KeySteps.{after_reading, noting_stops}
 use Rattle.programs.proofs.chunkplan.Steps.{text_follows}
-use Rattle.programs.proofs.chunkplan.StoredLines.{FaultOf, TextOf, missing_text, none_noted}
+use Rattle.programs.proofs.chunkplan.StoredLines.{none_noted, still_missing}
 use Rattle.programs.proofs.chunkplan.missing.write_missing.Goals as goal
 
 -- a walk has groups to give
@@ -47,7 +36,7 @@ module _ (walk : Copies ChunkGrid ChunkKeyEncoding ChunkGrid ChunkKeyEncoding) (
   both : (groups : List Group) → CopiesToCome walk groups
       → IsMissingText target IsKeyOf keys share groups (share_unless_stored Target (Some stored) share groups ++ foreign)
   both groups moves =
-      missing_text target IsKeyOf (all_targets walk) keys stored groups
+      still_missing target IsKeyOf (all_targets walk) keys stored groups
       (AreMovedInto (dimensions_in walk.source.now.grid) (key_in walk.source.now.encoding) (dimensions_in walk.targets.grid.now)
       (key_in walk.targets.encoding.now) (region_of walk) walk.targets.array_subset.start)
       (λ chunk group of. of.to.numbers) (rw all moves) few foreign noted share
@@ -73,7 +62,7 @@ returns-in_err-note_keys g c = λ bytes is.
     let long = ap length c.requires.all ∙ sym (AllZip-long _ (targets_to_come walk) groups moves) in
     let few : length (all_targets walk) < 2 ^ 29 = rw c.in-Some.is at c.in_ok-stored.ensures.few in
     rw (handed _ _ c.from_residual-in_err-note_keys.ensures.1)
-    (noting_stops _ (FaultOf walk bytes) _ _ _ bytes _ _ (rw is at c.in_err-note_keys.ensures.refused)
+    (noting_stops _ (λ fault. OfGroups walk (missing_text c.args.share.now bytes (array_in c.args.target.now)) (Err fault)) _ _ _ bytes _ _ (rw is at c.in_err-note_keys.ensures.refused)
     (λ number first. (groups, moves, (omega (arith, long, few), first))))
 
 pub returns-in_err-write_share : goal.returns-in_err-write_share
@@ -81,7 +70,7 @@ returns-in_err-write_share g c = λ bytes is.
     let walk = c.args.walk in
     let target = dimensions_of c.args.target.now in
     let IsKeyOf = key_of c.args.target.now in
-    let Text = TextOf walk target IsKeyOf c.args.share.now in
+    let Text : Result (List ℕ) RunFault → Type 0 = OfGroups walk (missing_text c.args.share.now bytes (array_in c.args.target.now)) in
     let few : length (all_targets walk) < 2 ^ 29 = rw c.in-Some.is at c.in_ok-stored.ensures.few in
     let knows = subst (λ to. Knows (dimensions_in to.grid) (key_in to.encoding) (all_targets walk) []
     c.in-Some.stored) c.requires.target (rw c.in-Some.is at c.in_ok-stored.ensures.none)
@@ -89,15 +78,17 @@ returns-in_err-write_share g c = λ bytes is.
     let (keys, are, noted) = c.in_ok-note_keys.ensures.noted bytes (all_targets walk) is
     (none_noted target IsKeyOf (all_targets walk) c.in-Some.stored _ knows c.new-foreign.ensures.items)
     in
+    let Whole : List ℕ → Type 0 = λ text. (groups : List Group) × CopiesToCome walk groups
+    × IsMissingText target IsKeyOf keys c.args.share.now groups text in
     let before : Output = written g.W.Write.contents c.args.sink.now in
     let after : Output = written g.W.Write.contents c.write_share.new.sink in
     let begins = lines_begin walk c.requires.all few target IsKeyOf keys c.note_keys.new.stored c.note_keys.new.foreign.items noted
     c.args.share.now
     in
     rw (handed _ _ c.from_residual-in_err-write_share.ensures.1)
-    (after_reading (BesideKeys Text bytes) (FaultOf walk bytes) _ _ before (λ (groups, moves, none). none) after _ c.in_ok-note_keys.ensures.failed
+    (after_reading (λ text. Text (Ok text)) (λ fault. Text (Err fault)) _ _ before (λ (groups, moves, none). none) after _ c.in_ok-note_keys.ensures.failed
     (rw is at c.in_ok-note_keys.ensures.end) (Err _)
-    (text_follows (Text keys) (BesideKeys Text bytes) (FaultOf walk bytes) (λ text said. (keys, are, said)) before after (Err _)
+    (text_follows Whole (λ text. Text (Ok text)) (λ fault. Text (Err fault)) (λ text (groups, moves, missing). (groups, moves, (keys, are, missing))) before after (Err _)
     (stops_whole _ _ begins before after _ c.in_err-write_share.ensures)))
 
 pub returns : goal.returns
@@ -105,7 +96,7 @@ returns g c = λ bytes is.
     let walk = c.args.walk in
     let target = dimensions_of c.args.target.now in
     let IsKeyOf = key_of c.args.target.now in
-    let Text = TextOf walk target IsKeyOf c.args.share.now in
+    let Text : Result (List ℕ) RunFault → Type 0 = OfGroups walk (missing_text c.args.share.now bytes (array_in c.args.target.now)) in
     let few : length (all_targets walk) < 2 ^ 29 = rw c.in-Some.is at c.in_ok-stored.ensures.few in
     let knows = subst (λ to. Knows (dimensions_in to.grid) (key_in to.encoding) (all_targets walk) []
     c.in-Some.stored) c.requires.target (rw c.in-Some.is at c.in_ok-stored.ensures.none)
@@ -113,6 +104,8 @@ returns g c = λ bytes is.
     let (keys, are, noted) = c.in_ok-note_keys.ensures.noted bytes (all_targets walk) is
     (none_noted target IsKeyOf (all_targets walk) c.in-Some.stored _ knows c.new-foreign.ensures.items)
     in
+    let Whole : List ℕ → Type 0 = λ text. (groups : List Group) × CopiesToCome walk groups
+    × IsMissingText target IsKeyOf keys c.args.share.now groups text in
     let before : Output = written g.W.Write.contents c.args.sink.now in
     let between : Output = written g.W.Write.contents c.write_share.new.sink in
     let after : Output = written g.W.Write.contents c.send_text.new.sink in
@@ -122,8 +115,8 @@ returns g c = λ bytes is.
     let ends = whole walk c.requires.all few target IsKeyOf keys c.note_keys.new.stored c.note_keys.new.foreign.items noted
     c.args.share.now
     in
-    after_reading (BesideKeys Text bytes) (FaultOf walk bytes) _ _ before (λ (groups, moves, none). none) after _ c.in_ok-note_keys.ensures.failed
+    after_reading (λ text. Text (Ok text)) (λ fault. Text (Err fault)) _ _ before (λ (groups, moves, none). none) after _ c.in_ok-note_keys.ensures.failed
     (rw is at c.in_ok-note_keys.ensures.end) c.send_text.result
-    (text_follows (Text keys) (BesideKeys Text bytes) (FaultOf walk bytes) (λ text said. (keys, are, said)) before after c.send_text.result
+    (text_follows Whole (λ text. Text (Ok text)) (λ fault. Text (Err fault)) (λ text (groups, moves, missing). (groups, moves, (keys, are, missing))) before after c.send_text.result
     (ends_behind _ (λ text. text ≡ c.note_keys.new.foreign.items) _ before between after c.in_ok-write_share.ensures begins ends c.send_text.result
     c.send_text.ensures))

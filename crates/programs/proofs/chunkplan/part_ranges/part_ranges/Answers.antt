@@ -1,5 +1,4 @@
-use Rattle.std.specs.Int.NonZero.{non_zero_u64_get}
-use Rattle.zarrs_chunk_plan.proofs.MovedBoxes.{within_starts}
+use Rattle.programs.proofs.chunkplan.Common.{non_zero_u64_get, within_starts}
 use Rattle.zarrs_chunk_plan.proofs.StridedForms.{none_where_out}
 use Rattle.programs.proofs.chunkplan.part_ranges.part_ranges.Goals as goal
 

@@ -1,7 +1,5 @@
-use Rattle.std.proofs.Common.{◌≡◌, ◌∙◌, ◌<◌, ◌≤◌, [], ◌∷◌, ◌++◌, ap, length, subst, sym, take, take_all, arith}
-use Rattle.std.proofs.lemmas.List.{take_more}
-use Rattle.json.specs.Token.{end_array}
-use Rattle.programs.specs.chunkplan.seen.Added.{Adds}
+use Rattle.programs.proofs.chunkplan.Common.{◌≡◌, ◌∙◌, ◌<◌, ◌≤◌, [], ◌∷◌, ◌++◌, ap, length, subst, sym, take, take_all, arith, take_more, end_array}
+use Rattle.programs.proofs.chunkplan.Common.{Adds}
 use Rattle.programs.proofs.chunkplan.Tokens.{nothing, one_more_range, ranges_so_far, ranges_tokens, then, wrote}
 use Rattle.programs.proofs.chunkplan.part_ranges.write_listed.Goals as goal
 

@@ -1,5 +1,4 @@
-use Rattle.std.proofs.Common.{take}
-use Rattle.programs.specs.chunkplan.seen.Added.{Adds}
+use Rattle.programs.proofs.chunkplan.Common.{take, Adds}
 use Rattle.programs.proofs.chunkplan.Tokens.{ranges_so_far}
 use Rattle.programs.proofs.chunkplan.part_ranges.write_listed.Given as goal
 

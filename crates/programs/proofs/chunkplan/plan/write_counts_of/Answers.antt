@@ -1,6 +1,5 @@
-use Rattle.std.proofs.Common.{false}
-use Rattle.programs.specs.chunkplan.CountsLine.{IsCountsLine}
-use Rattle.programs.specs.chunkplan.PlanFault.{IsReadFault}
+use Rattle.programs.proofs.chunkplan.Common.{false, IsCountsLine}
+use Rattle.programs.specs.chunkplan.Planned.{IsReadFault}
 use Rattle.programs.specs.chunkplan.seen.Opened.{dimensions_of}
 use Rattle.programs.proofs.chunkplan.CountedPlans.{counted_parts}
 use Rattle.programs.proofs.chunkplan.Steps.{text_follows}
@@ -12,7 +11,7 @@ returns-in-Ok-Some g c =
     let said = c.in-Ok-Some.ensures in
     let counts = c.in-Ok-Some.counts in
     let (parts, plan, are) = counted_parts c.args.array.now c.args.subset.now counts c.is_a_box.ensures c.requires.lengths
-    (rw is at said.empty) (rw is at said.answers)
+    (rw is at said.counts)
     in
     text_follows (IsCountsLine counts) _ (IsReadFault false (dimensions_of c.args.array.now) c.args.subset.now)
     (λ text line. (parts, plan, (counts, are, line)))

@@ -1,4 +1,4 @@
-use Rattle.programs.specs.chunkplan.PlanFault.{IsReadFault}
+use Rattle.programs.specs.chunkplan.Planned.{IsReadFault}
 use Rattle.zarrs_chunks.specs.seen.Grids.{chained_in}
 use Rattle.programs.specs.chunkplan.seen.Opened.{dimensions_of}
 use Rattle.programs.proofs.chunkplan.Asked.{asked_fault}
@@ -15,6 +15,6 @@ returns g c =
     let asked = c.in_ok-asked.asked in
     let is_asked = c.in_ok-asked.ensures.asked in
     step_follows _ _ _ _
-    (λ text (parts, is, lines). (asked, parts, is_asked, is, lines))
+    (λ text is. (asked, is_asked, is))
     (asked_fault ds (chained_in c.args.array.now.grid) c.args.subset asked c.args.clip is_asked)
     _ _ c.write_asked.result c.write_asked.ensures

@@ -1,11 +1,6 @@
-use Rattle.zarrs_chunk_base.specs.ArraySubset.{IsInside}
-use Rattle.zarrs_chunk_plan.specs.Rechunking.{array_box}
-use Rattle.zarrs_chunk_plan.proofs.Copied.{copy_of}
-use Rattle.zarrs_chunk_plan.proofs.MovedBoxes.{can_stay}
-use Rattle.programs.specs.chunkplan.CountsLine.{IsCountsLine}
-use Rattle.programs.specs.chunkplan.PlanFault.{IsChunksFault}
+use Rattle.programs.proofs.chunkplan.Common.{IsInside, array_box, copy_of, can_stay, IsCountsLine, Copies}
+use Rattle.programs.specs.chunkplan.Planned.{IsChunksFault}
 use Rattle.programs.specs.chunkplan.seen.Opened.{dimensions_in, dimensions_of, key_in}
-use Rattle.programs.specs.declared.chunkplan.run_fault.RunFault.TheVariants.{Copies}
 use Rattle.programs.proofs.chunkplan.CountedPlans.{chunks_fault, rechunking_there}
 use Rattle.programs.proofs.chunkplan.Steps.{early, refused_or, text_follows}
 use Rattle.programs.proofs.chunkplan.plan.write_rechunking.Goals as goal
@@ -29,9 +24,11 @@ returns-in_ok-walk-in-Lines g c =
     (text_follows _ _ (IsChunksFault target chunks)
     (λ text (groups, moves, lines). (
       groups,
-      copy_of dimensions_in key_in dimensions_in key_in c.args.source.now c.args.target.now (array_box target) (array_box target).start
-          (IsInside chunks) targets c.in_ok-walk-in-Lines.walk groups (can_stay source target said.one_array) said.about said.first is_box are left moves,
-      said.lengths,
+      (
+        copy_of dimensions_in key_in dimensions_in key_in c.args.source.now c.args.target.now (array_box target) (array_box target).start
+            (IsInside chunks) targets c.in_ok-walk-in-Lines.walk groups (can_stay source target said.one_array) said.about said.first is_box are left moves,
+        said.lengths,
+      ),
       lines,
     ))
     _ _ _ c.write_share.ensures)
@@ -52,5 +49,5 @@ returns-in_ok-counts-in-Counts g c =
     let (groups, plan) = rechunking_there c.args.source.now c.args.target.now said.one_array said.is_box c.args.chunks.now targets is_box are in
     rw c.in-Counts.is
     (text_follows (IsCountsLine counts) _ (IsChunksFault (dimensions_of c.args.target.now) c.args.chunks.now)
-    (λ text line. (groups, plan, said.lengths, (targets, is_box, are, (counts, each groups plan, line))))
+    (λ text line. (groups, (plan, said.lengths), (targets, is_box, are, (counts, each groups plan, line))))
     _ _ _ c.write_counts.ensures)

@@ -1,5 +1,4 @@
-use Rattle.zarrs_chunk_plan.specs.seen.Changes.{changes_to_come}
-use Rattle.zarrs_chunk_plan.proofs.SomeResizes.{asked_are_used}
+use Rattle.programs.proofs.chunkplan.Common.{changes_to_come, asked_are_used}
 use Rattle.programs.specs.chunkplan.seen.Opened.{dimensions_in, dimensions_of}
 use Rattle.programs.proofs.chunkplan.Steps.{text_follows}
 use Rattle.programs.proofs.chunkplan.plan.write_resize.Goals as goal

@@ -1,8 +1,5 @@
-use Rattle.std.proofs.Common.{◌≡◌, ◌∙◌, ap, inl, length, option_map, refl, sym}
-use Rattle.zarrs_chunk_plan.specs.Counted.{counted}
-use Rattle.zarrs_chunk_plan.specs.Shares.{before_share, share_of}
-use Rattle.zarrs_chunk_plan.specs.seen.Copies.{all_targets}
-use Rattle.programs.specs.chunkplan.Line.{lines_from}
+use Rattle.programs.proofs.chunkplan.Common.{◌≡◌, ◌∙◌, ap, inl, length, option_map, refl, sym, counted, before_share, share_of, all_targets}
+use Rattle.programs.proofs.chunkplan.Common.{lines_from}
 use Rattle.programs.specs.chunkplan.seen.Missing.{line_unless_stored}
 use Rattle.programs.proofs.chunkplan.Begun.{copies_of_share, share_can_copy}
 use Rattle.programs.proofs.chunkplan.Exits.{handed}

@@ -1,5 +1,4 @@
-use Rattle.std.proofs.Common.{◌≡◌, ◌≤◌, ◌<◌, inl, inr, rules, ⊎_elim, arith}
-use Rattle.std.proofs.lemmas.Bool.{cases_lt}
+use Rattle.programs.proofs.chunkplan.Common.{◌≡◌, ◌≤◌, ◌<◌, inl, inr, rules, ⊎_elim, arith, cases_lt}
 use Rattle.programs.proofs.chunkplan.Digits.{written}
 use Rattle.programs.proofs.chunkplan.product.append_digit.Goals.{else-digit-eq0-via-then-digit-eq0+else-is_empty, else-digit-eq0-via-else-digit-eq0}
 use Rattle.programs.proofs.chunkplan.product.append_digit.Goals as goal

@@ -1,5 +1,4 @@
-use Rattle.std.proofs.Common.{drop}
-use Rattle.programs.specs.chunkplan.seen.Digits.{HasText, value}
+use Rattle.programs.proofs.chunkplan.Common.{drop, HasText, value}
 use Rattle.programs.proofs.chunkplan.product.numeral.Given as goal
 
 -- the text is that of the digits so far

@@ -1,5 +1,4 @@
-use Rattle.std.proofs.Common.{◌≡◌, length, rules}
-use Rattle.std.proofs.lemmas.List.{nil_from_length}
+use Rattle.programs.proofs.chunkplan.Common.{◌≡◌, length, rules, nil_from_length}
 use Rattle.programs.proofs.chunkplan.Digits.{zero_written}
 use Rattle.programs.proofs.chunkplan.product.or_zero.Goals as goal
 

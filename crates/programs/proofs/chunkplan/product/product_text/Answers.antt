@@ -1,7 +1,4 @@
-use Rattle.std.proofs.Common.{◌∙◌, ◌*◌, ap, slice_index_or, sym, take}
-use Rattle.std.proofs.lemmas.List.{take_more}
-use Rattle.zarrs_chunk_plan.specs.Counts.{product}
-use Rattle.programs.specs.chunkplan.seen.Digits.{value}
+use Rattle.programs.proofs.chunkplan.Common.{◌∙◌, ◌*◌, ap, slice_index_or, sym, take, take_more, product, value}
 use Rattle.programs.proofs.chunkplan.Digits.{product_pushed}
 use Rattle.programs.proofs.chunkplan.product.product_text.Goals as goal
 

@@ -1,6 +1,4 @@
-use Rattle.std.proofs.Common.{◌≡◌, take}
-use Rattle.zarrs_chunk_plan.specs.Counts.{product}
-use Rattle.programs.specs.chunkplan.seen.Digits.{AreDigits, value}
+use Rattle.programs.proofs.chunkplan.Common.{◌≡◌, take, product, AreDigits, value}
 use Rattle.programs.proofs.chunkplan.product.product_text.Given as goal
 
 -- the digits are those of the product of the factors so far

@@ -1,6 +1,5 @@
-use Rattle.std.proofs.Common.{◌≡◌, ◌∙◌, ◌+◌, ◌*◌, ◌/◌, ◌%◌, ◌<◌, ◌≤◌, ℕ, zero, suc, ap, drop, refl, slice_index_or, arith}
-use Rattle.std.proofs.lemmas.List.{drop_more}
-use Rattle.programs.specs.chunkplan.seen.Digits.{value, value_with}
+use Rattle.programs.proofs.chunkplan.Common.{◌≡◌, ◌∙◌, ◌+◌, ◌*◌, ◌/◌, ◌%◌, ◌<◌, ◌≤◌, ℕ, zero, suc, ap, drop, refl, slice_index_or, arith, drop_more}
+use Rattle.programs.proofs.chunkplan.Common.{value, value_with}
 use Rattle.programs.proofs.chunkplan.Digits.{carried, digit_at, digits_pushed, value_pushed}
 use Rattle.programs.proofs.chunkplan.product.times.Goals as goal
 

@@ -1,5 +1,4 @@
-use Rattle.std.proofs.Common.{◌≡◌, ◌+◌, ◌*◌, ◌≤◌, drop}
-use Rattle.programs.specs.chunkplan.seen.Digits.{AreDigits, value, value_with}
+use Rattle.programs.proofs.chunkplan.Common.{◌≡◌, ◌+◌, ◌*◌, ◌≤◌, drop, AreDigits, value, value_with}
 use Rattle.programs.proofs.chunkplan.product.times.Given as goal
 
 -- with what is carried, the digits so far are those of the product, as far as the other digits aren't multiplied yet

@@ -1,6 +1,4 @@
-use Rattle.std.proofs.Common.{subst}
-use Rattle.zarrs_chunk_base.specs.ArraySubset.{IsInside}
-use Rattle.zarrs_chunk_plan.specs.Rechunking.{AreTargets, IsRechunking, array_box}
+use Rattle.programs.proofs.chunkplan.Common.{subst, IsInside, AreTargets, IsRechunking, array_box}
 use Rattle.programs.specs.chunkplan.seen.Opened.{dimensions_of, key_of}
 use Rattle.programs.proofs.chunkplan.CountedPlans.{rechunking_there}
 use Rattle.programs.proofs.chunkplan.within.counts_of_all.Goals as goal

@@ -1,6 +1,6 @@
-use Rattle.programs.specs.chunkplan.PlanFault.{IsStagesCountsFault}
-use Rattle.programs.specs.chunkplan.CountsLine.{IsStagesLine}
-use Rattle.programs.specs.chunkplan.seen.Opened.{dimensions_of}
+use Rattle.programs.proofs.chunkplan.Common.{Err, IsStagesLine}
+use Rattle.programs.specs.chunkplan.Planned.{stages_counts_text}
+use Rattle.programs.specs.chunkplan.seen.Opened.{array_in}
 use Rattle.programs.proofs.chunkplan.Steps.{made_text, text_follows}
 use Rattle.programs.proofs.chunkplan.within.write_stages_counts.Goals as goal
 
@@ -8,7 +8,7 @@ pub returns : goal.returns
 returns g c =
     let (largest, other, is_largest, is_other, held) = c.in_ok-fits.ensures.held in
     let stages = c.in_ok-stages.stages in
-    text_follows _ _ (IsStagesCountsFault (dimensions_of c.args.source.now) (dimensions_of c.args.target.now))
+    text_follows _ _ (λ fault. stages_counts_text c.args.most (array_in c.args.source.now) (array_in c.args.target.now) (Err fault))
     (λ text made. record {
       largest = largest;
       is_largest = is_largest;

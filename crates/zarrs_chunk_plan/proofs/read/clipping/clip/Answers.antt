@@ -9,7 +9,8 @@ returns-clause-clipped g c =
     let many : length c.args.array_subset.now.start ≡ length ds = search rules in
     let starts = rw c.in_ok-array.ensures.elements at both.start in
     let common = rw c.in_ok-array.ensures.elements at both.common in
-    is_clipped ds c.args.array_subset.now c.in_ok-overlap.field-0 many both.is_box starts common
+    let shape = rw c.in_ok-array.ensures.elements at both.shape in
+    is_clipped ds c.args.array_subset.now c.in_ok-overlap.field-0 many c.is_a_box.ensures c.in_ok-array.ensures.is_box both.is_box starts shape common
 
 pub returns-clause-covered : goal.returns-clause-covered
 returns-clause-covered g c =

@@ -1,14 +1,15 @@
 use Rattle.zarrs_chunk_plan.proofs.Common.{◌≡◌, ◌∙◌, ◌+◌, [], ap, length, min, arith, greatest, row_major, chunks_in}
 use Rattle.zarrs_chunk_plan.specs.declared.read.numbered_parts.SomeParts.{SomeParts}
-use Rattle.zarrs_chunk_plan.proofs.Plans.{covered_meet, none_in_zeros}
+use Rattle.zarrs_chunk_plan.proofs.Plans.{covers_any, meet_each, none_in_zeros}
 use Rattle.zarrs_chunk_plan.proofs.Taken.{none_of_plan, some_of_plan}
 use Rattle.zarrs_chunk_plan.proofs.read.numbered_parts.some_parts.Goals as goal
 
 pub parts_between-requires-clause-meet : goal.parts_between-requires-clause-meet
 parts_between-requires-clause-meet g c =
-    covered_meet (g.G.ChunkGridTraits.dimensions c.args.grid.now) c.args.array_subset.now c.in-Some.cover
+    meet_each
+    (covers_any (g.G.ChunkGridTraits.dimensions c.args.grid.now) c.args.array_subset.now c.in-Some.cover
     (g.met.G.ChunkGridTraits.chained c.args.grid.now) c.is_a_box.ensures
-    (rw c.in-Some.is at c.in_ok-cover.ensures.empty) (rw c.in-Some.is at c.in_ok-cover.ensures.answers)
+    (rw c.in-Some.is at c.in_ok-cover.ensures.empty) (rw c.in-Some.is at c.in_ok-cover.ensures.answers))
 
 pub returns-clause-answers : goal.returns-clause-answers
 returns-clause-answers g c = λ some.

@@ -3,6 +3,6 @@ use Rattle.zarrs_chunk_plan.proofs.resize.plan.changes.Goals as goal
 
 pub returns-clause-changed : goal.returns-clause-changed
 returns-clause-changed g c = λ resized.
+    let is = c.in_ok-uses.ensures.changed resized in
     rw c.in_ok-new.ensures.left
-    (are_changed _ _ _ _ _ c.in_ok-uses.ensures.before c.in_ok-uses.ensures.after (c.in_ok-uses.ensures.kept resized) _ _ c.in_ok-boxes.ensures.once
-    c.in_ok-boxes.ensures.those)
+    (are_changed _ _ _ _ _ is.used_before is.used_after is.kept _ _ c.in_ok-boxes.ensures.once c.in_ok-boxes.ensures.those)

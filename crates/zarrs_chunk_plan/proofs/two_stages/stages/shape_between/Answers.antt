@@ -63,10 +63,10 @@ returns-clause-found g c =
     let tried = rw (c.array_shape.ensures, c.deref.ensures.value, c.deref-2.ensures.value) at c.in_ok-tried.ensures in
     let rows = rw c.deref-4.ensures.value at c.in_ok-rows.ensures in
     let few = rw (c.deref-3.ensures.value, tried) at c.shapes_of.ensures in
-    let room = c.saturating_sub.ensures ∙ ap (λ n. c.args.most - n) (c.max-held.ensures ∙ ap₂ max c.saturating_product.ensures c.saturating_product-2.ensures) in
+    let room = c.saturating_sub.ensures ∙ ap (λ n. c.bound_of-most.result - n) (c.max-held.ensures ∙ ap₂ max c.saturating_product.ensures c.saturating_product-2.ensures) in
     finds _ _ (g.met.G.ChunkGridTraits.chained c.args.source.now) (g.met.H.ChunkGridTraits.chained c.args.target.now) both.one_array rows.is_box _
     (omega (arith, c.ranges.most.fits)) _ _ both.largest both.other (omega (arith, few, c.if-shapes_of-gt-MOST_SHAPES.false)) _ (rows.edges ∙ tried)
-    rows.reads c.in_ok-chosen.chosen c.outermost_first.result
+    rows.reads c.args.most (rw c.array_shape-2.ensures at c.bound_of-most.ensures) c.in_ok-chosen.chosen c.outermost_first.result
     (rw (c.deref-7.ensures.value, room, c.deref-5.ensures.value, c.deref-6.ensures.value) at (c.in_ok-chosen.ensures {u = tt})) c.outermost_first.ensures
 
 pub returns-clause-long : goal.returns-clause-long

@@ -9,4 +9,4 @@ returns-in-Ok-expect_answer-clause-steps g c =
     let walk = c.args.self.now in
     let steps = rw c.in-Ok.is at c.in_ok-to.ensures.steps in
     let found = c.in-Ok-expect_answer.ensures in
-    gives_copies g.G.ChunkGridTraits.dimensions target is_key walk _ _ steps _ (λ some. (rw found at c.sources-from.ensures) some) _ refl refl refl
+    gives_copies g.G.ChunkGridTraits.dimensions target is_key walk _ _ steps _ (rw found at c.sources-from.ensures) _ refl refl refl

@@ -13,9 +13,7 @@ returns-in-Ok-change_of-clause-steps g c =
     λ can. record {
       array_before = rw (same.same_array_before, same.same_before) can.array_before;
       array_after = rw (same.same_array_after, same.same_after) can.array_after;
-      used_before = rw (same.same_uses, same.same_before) can.used_before;
-      used_after = rw (same.same_uses, same.same_after) can.used_after;
-      kept = rw (same.same_uses, same.same_before, same.same_after) can.kept;
+      changed = rw (same.same_uses, same.same_before, same.same_after) can.changed;
     } in
     record {
       gives = gives ∙ ap (λ chunk. chunk ∷ changes_to_come c.next_chunk.new.self) (sym is_chunk);
