@@ -256,7 +256,7 @@ def used_along(grid):
 
 
 def kept_along(before, after, both):
-    """How many of the chunks that both arrays use are kept along each dimension. Only the last of them may differ."""
+    """How many of the chunks that both arrays use are kept along each dimension: 0 along all without such a chunk. Only the last may differ."""
 
     def held(dimension, chunk):
         start, end = dimension.start(chunk), dimension.end(chunk)
@@ -264,7 +264,8 @@ def kept_along(before, after, both):
 
     if 0 in both:
         return both
-    return [n if held(d, n - 1) == held(e, n - 1) else n - 1 for d, e, n in zip(before.dimensions, after.dimensions, both)]
+    kept = [n if held(d, n - 1) == held(e, n - 1) else n - 1 for d, e, n in zip(before.dimensions, after.dimensions, both)]
+    return [0] * len(kept) if 0 in kept else kept
 
 
 def may_go_through(grid):

@@ -5,17 +5,16 @@ use Rattle.std.proofs.lemmas.List.Elements.{All-drop, All-from_recursion, All-ta
 use Rattle.std.specs.List.{AllByRecursion, AllZip}
 use Rattle.zarrs_chunk_base.proofs.Boxes.{within_lengths}
 use Rattle.zarrs_chunk_base.proofs.InEach.{length_numbers, length_values}
-use Rattle.zarrs_chunk_base.specs.ArraySubset.{Box, IsBox, IsEmptyBox}
-use Rattle.zarrs_chunk_base.specs.Dimension.{Dimension, Holds, IsChain}
-use Rattle.zarrs_chunks.specs.Subsets.{IsCover}
+use Rattle.zarrs_chunk_base.specs.ArraySubset.{Box}
+use Rattle.zarrs_chunk_base.specs.Dimension.{Dimension, Holds}
 use Rattle.zarrs_chunks.specs.Walks.{chunks_in}
-use Rattle.zarrs_chunk_plan.proofs.Plans.{covers_any, meet_each}
+use Rattle.zarrs_chunk_plan.proofs.Plans.{meet_each}
+use Rattle.zarrs_chunk_plan.specs.SomeParts.{AreSomeParts}
 use Rattle.zarrs_chunk_parts.specs.Plan.{IsPart, Meets}
 use Rattle.zarrs_chunk_parts.specs.declared.part.Part.{Part}
 use Rattle.zarrs_chunk_plan.specs.declared.read.numbered_parts.SomeParts.{SomeParts}
-use Rattle.zarrs_chunks.proofs.Covers.{none_is_not_empty}
 use Rattle.zarrs_chunk_batches.proofs.Planned.{count_is}
-use Rattle.zarrs_chunk_batches.specs.seen.Parts.{AreFoundParts, IsLongPart}
+use Rattle.zarrs_chunk_batches.specs.seen.Parts.{IsLongPart}
 
 -- ---- lists
 
@@ -49,16 +48,12 @@ module _ (ds : List Dimension) (IsKey : List ℕ → List ℕ → Type 0) (b : B
       record { chunk = numbers; in_chunk = omega arith; in_subset = omega arith; shape = omega arith }
 
   module _ (first most : ℕ) where
-    pub few_parts : (some : SomeParts) → AreFoundParts ds IsKey b first most some → length some.parts.items ≤ most
-    few_parts some (cover, is_cover, are) = let is = count_is ds IsKey b first most some cover are in omega arith
+    pub few_parts : (some : SomeParts) → AreSomeParts ds IsKey b first most some.in_all some.parts.items → length some.parts.items ≤ most
+    few_parts some are = let is = count_is ds IsKey b first most some are in omega arith
 
-    pub long_parts : AllByRecursion IsChain ds → IsBox b → length b.start ≡ length ds → (some : SomeParts) → AreFoundParts ds IsKey b first most some
+    pub long_parts : (some : SomeParts) → AreSomeParts ds IsKey b first most some.in_all some.parts.items
         → AllByRecursion (IsLongPart (length ds)) some.parts.items
-    long_parts chains is_box long some (cover, is_cover, are) =
+    long_parts some are =
         let count = min (some.in_all - first) most in
-        let if_some : (¬ IsEmptyBox b) ⊎ (length ds ≡ 0) → (length b.start ≡ length ds) × IsCover ds b cover = λ which.
-        (long, ⊎_elim is_cover.0 (λ none. is_cover.0 (none_is_not_empty b is_box (omega arith))) which)
-        in
-        let meet = meet_each (covers_any ds b cover chains is_box (λ empty _. is_cover.1 empty) if_some) in
-        all_zipped (Meets ds b) (IsPart ds IsKey b) (IsLongPart (length ds)) long_part (take count (drop first (chunks_in cover))) some.parts.items
-        (all_taken (Meets ds b) first count (chunks_in cover) meet) are.are_parts
+        all_zipped (Meets ds b) (IsPart ds IsKey b) (IsLongPart (length ds)) long_part (take count (drop first (chunks_in are.cover))) some.parts.items
+        (all_taken (Meets ds b) first count (chunks_in are.cover) (meet_each are.is_cover)) are.are_parts

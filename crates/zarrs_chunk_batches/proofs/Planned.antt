@@ -5,57 +5,17 @@ use Rattle.std.proofs.lemmas.List.{drop-drop, get_or-drop, get_or-take, length-d
 use Rattle.std.proofs.lemmas.Option.{get_or_from_slice_get}
 use Rattle.std.proofs.lemmas.Slice.Zip.{AllZip-long}
 use Rattle.std.specs.List.{AllZip, slice_get}
-use Rattle.zarrs_chunk_base.specs.ArraySubset.{Box, IsBox, IsEmptyBox, zero_box}
+use Rattle.zarrs_chunk_base.specs.ArraySubset.{Box}
 use Rattle.zarrs_chunk_base.specs.Dimension.{Dimension}
 use Rattle.zarrs_chunks.specs.Walks.{chunks_in}
 use Rattle.zarrs_chunk_parts.specs.Plan.{AreShared, IsPart}
-use Rattle.zarrs_chunk_plan.specs.SomeParts.{AnswersNone, AnswersSome, AreSomeParts}
+use Rattle.zarrs_chunk_plan.specs.SomeParts.{AreSomeParts}
 use Rattle.zarrs_chunk_parts.specs.declared.part.Part.{Part}
 use Rattle.zarrs_chunk_plan.specs.declared.read.numbered_parts.SomeParts.{SomeParts}
-use Rattle.zarrs_chunk_plan.proofs.Plans.{empty_or_some, none_in_zeros}
-use Rattle.zarrs_chunk_plan.proofs.Taken.{none_taken}
-use Rattle.zarrs_chunk_prepared.specs.LookedUp.{HasNoCover, IsCoverOf}
 use Rattle.zarrs_chunk_batches.specs.Batch.{AreTexts}
 use Rattle.zarrs_chunk_batches.specs.Parts.{AreListsKept, IsPartAt, IsPlanWith}
 use Rattle.zarrs_chunk_batches.specs.declared.structs.PartBuffers.{PartBuffers}
-use Rattle.zarrs_chunk_batches.specs.seen.Parts.{AreFoundParts, AreWrittenBelow, IsKeyOf, IsWritten}
-use Rattle.zarrs_chunks.proofs.Covers.{none_is_not_empty}
-
--- ---- what was found
-
-module _ (IsKey : List ℕ → List ℕ → Type 0) (first most : ℕ) where
-  -- of an empty box: no parts, and the cover without chunks
-  none_of_empty : (ds : List Dimension) (b : Box) (some : SomeParts) → length ds ≢ 0 → IsEmptyBox b → AnswersNone (Ok (Some some))
-      → AreFoundParts ds IsKey b first most some
-  none_of_empty ds b some dimensions empty (no_count, no_parts) =
-      let cover = zero_box (length ds) in
-      let none = none_in_zeros (length ds) dimensions in
-      let long : length (chunks_in cover) ≡ 0 = ap length none in
-      let taken = none_taken first (min (some.in_all - first) most) (chunks_in cover) none in (
-        cover,
-        ((λ not_empty. absurd (not_empty empty)), (λ _. refl)),
-        record {
-          in_all = rw long no_count;
-          are_parts = rw (taken, no_parts) tt;
-        },
-      )
-
-  pub parts_of_any : (ds : List Dimension) (b : Box) (found : Option SomeParts) → IsBox b → (IsEmptyBox b → length ds ≢ 0 → AnswersNone (Ok found))
-      → ((¬ IsEmptyBox b) ⊎ (length ds ≡ 0) → AnswersSome ds IsKey b first most (Ok found))
-      → MatchOption found (HasNoCover ds b) (AreFoundParts ds IsKey b first most)
-  parts_of_any [] b None is_box empty answers = let is = answers (inr refl) in (none_is_not_empty b is_box is.0, is.1)
-  parts_of_any [] b (Some some) is_box empty answers =
-      let (same, (cover, is_cover, are)) = answers (inr refl) in
-      (cover, ((λ _. is_cover), (λ is_empty. absurd (none_is_not_empty b is_box same is_empty))), are)
-  parts_of_any (d ∷ ds) b None is_box empty answers =
-      let some : ¬ IsEmptyBox b = λ is_empty. empty is_empty (λ none. absurd (omega arith)) in (some, (answers (inl some)).1)
-  parts_of_any (d ∷ ds) b (Some some) is_box empty answers =
-      let dimensions : length (d ∷ ds) ≢ 0 = λ none. absurd (omega arith) in
-      ⊎_elim (λ is_empty. none_of_empty (d ∷ ds) b some dimensions is_empty (empty is_empty dimensions))
-      (λ not_empty.
-      let (same, (cover, is_cover, are)) = answers (inl not_empty) in
-      (cover, ((λ _. is_cover), (λ is_empty. absurd (not_empty is_empty))), are))
-      (empty_or_some b.shape)
+use Rattle.zarrs_chunk_batches.specs.seen.Parts.{AreWrittenBelow, IsKeyOf, IsWritten}
 
 -- ---- what is written
 
@@ -119,7 +79,7 @@ module _ (ds : List Dimension) (IsKey : List ℕ → List ℕ → Type 0) (subse
       let shared = subst (λ s. AreShared ds subset chunk part.in_chunk (record { start = part.in_subset.start; shape = s })) (sym shape) is.boxes in
       record { numbers = lists.is_chunk ∙ is.numbers; boxes = rw (lists.is_in_chunk, lists.is_in_subset, lists.is_shape) shared }
 
-  module _ (first room : ℕ) (some : SomeParts) (cover : Box) (are : AreSomeParts ds IsKey subset cover first room some) where
+  module _ (first room : ℕ) (some : SomeParts) (are : AreSomeParts ds IsKey subset first room some.in_all some.parts.items) where
     abbrev pub IsPartOf : List ℕ → Part → Type 0
     IsPartOf = IsPart ds IsKey subset
 
@@ -127,7 +87,7 @@ module _ (ds : List Dimension) (IsKey : List ℕ → List ℕ → Type 0) (subse
     parts = some.parts.items
 
     abbrev chunks : List (List ℕ)
-    chunks = chunks_in cover
+    chunks = chunks_in are.cover
 
     abbrev pub count : ℕ
     count = min (some.in_all - first) room
@@ -140,16 +100,16 @@ module _ (ds : List Dimension) (IsKey : List ℕ → List ℕ → Type 0) (subse
         let same = AllZip-long IsPartOf taken parts are.are_parts in
         let long = length-take count (drop first chunks) in
         let rest = length-drop first chunks in
-        let in_all = are.in_all in
+        let in_all = are.counted in
         omega arith
 
-    written_of_cover : (buffers : PartBuffers) (keys : List ℕ) → IsCoverOf ds subset cover → buffers.in_all ≡ some.in_all
+    pub all_written : (buffers : PartBuffers) (keys : List ℕ) → buffers.in_all ≡ some.in_all
         → buffers.count ≡ length parts → length buffers.offsets.now - 1 ≡ room → AreWrittenBelow (length parts) (length ds) parts buffers
         → AreTexts (IsKeyOf parts) (length parts) keys buffers.offsets.now → IsPlanWith ds IsKey subset first buffers keys
-    written_of_cover buffers keys is_cover in_all counted has_room lists texts = record {
-      cover = cover;
-      is_cover = is_cover;
-      has_in_all = in_all ∙ are.in_all;
+    all_written buffers keys in_all counted has_room lists texts = record {
+      cover = are.cover;
+      is_cover = are.is_cover;
+      has_in_all = in_all ∙ are.counted;
       has_written = rw (counted, in_all, has_room) count_is;
       parts = λ number less.
           let (chunk, (part, of_chunk, of_part, is)) = at_place IsPartOf taken parts number are.are_parts (omega arith) in
@@ -166,9 +126,3 @@ module _ (ds : List Dimension) (IsKey : List ℕ → List ℕ → Type 0) (subse
             rw (of_number.is_chunk, is.numbers, texts.texts number less part of_part) is.key;
       });
     }
-
-  pub all_written : (first room : ℕ) (some : SomeParts) (buffers : PartBuffers) (keys : List ℕ) → AreFoundParts ds IsKey subset first room some
-      → buffers.in_all ≡ some.in_all → buffers.count ≡ length some.parts.items → length buffers.offsets.now - 1 ≡ room
-      → AreWrittenBelow (length some.parts.items) (length ds) some.parts.items buffers
-      → AreTexts (IsKeyOf some.parts.items) (length some.parts.items) keys buffers.offsets.now → IsPlanWith ds IsKey subset first buffers keys
-  all_written first room some buffers keys (cover, is_cover, are) = written_of_cover first room some cover are buffers keys is_cover

@@ -6,8 +6,8 @@ use Rattle.zarrs_chunk_base.specs.ArraySubset.{Box}
 use Rattle.zarrs_chunk_base.specs.Dimension.{Dimension}
 use Rattle.zarrs_chunk_base.specs.Greatest.{greatest}
 use Rattle.zarrs_chunks.specs.Walks.{chunks_in}
-use Rattle.zarrs_chunk_parts.specs.Plan.{AreShared}
-use Rattle.zarrs_chunk_prepared.specs.LookedUp.{HasNoCover, IsCoverOf}
+use Rattle.zarrs_chunk_parts.specs.Plan.{AreShared, Covers}
+use Rattle.zarrs_chunk_prepared.specs.LookedUp.{HasNoCover}
 use Rattle.zarrs_chunk_batches.specs.Batch.{AreKeys, IsMarked, IsTooLong, IsWhole, list_at}
 use Rattle.zarrs_chunk_batches.specs.KeyCalls.{AreTextLengths}
 use Rattle.zarrs_chunk_batches.specs.declared.structs.PartBuffers.{PartBuffers}
@@ -24,7 +24,7 @@ pub record IsPartAt (ds : List Dimension) (subset : Box) (chunk : List ℕ) (buf
 pub record IsPlanWith (ds : List Dimension) (IsKey : List ℕ → List ℕ → Type 0) (subset : Box) (first : ℕ) (buffers : PartBuffers)
     (keys : List ℕ) : Type 0 where
   pub cover : Box
-  pub is_cover : IsCoverOf ds subset cover
+  pub is_cover : Covers ds subset cover
   pub has_in_all : buffers.in_all ≡ min (length (chunks_in cover)) greatest
   pub has_written : buffers.count ≡ min (buffers.in_all - first) (length buffers.offsets.now - 1)
   pub parts : (number : ℕ) → number < buffers.count → IsPartAt ds subset (slice_index_or (chunks_in cover) (first + number) []) buffers number

@@ -14,13 +14,13 @@ pub(crate) trait Questions {
     /// How long the two lists of an answer are.
     ghost widths: { Self → ℕ × ℕ };
 
-    /// What is asked with this number was given.
+    /// The buffers have what is asked with this number.
     ghost given: { Self → ℕ → Type 0 };
 
-    /// It is a question, which has an answer or none.
+    /// What is asked with this number is a question: it has an answer, or none.
     ghost is_question: { Self → ℕ → Type 0 };
 
-    /// The fault of what isn't one. Where all that can be asked is a question, it is never told.
+    /// The fault of what isn't one.
     ghost fault: { Self → AnyFault };
 
     /// The two lists answer the question with this number.

@@ -5,8 +5,9 @@ ghost use Rattle.zarrs_chunk_base.specs.ArraySubset.{IsBox};
 ghost use Rattle.zarrs_chunk_batches.specs.Batch.{AreTexts};
 ghost use Rattle.zarrs_chunk_batches.specs.Parts.{AreListsKept, AreSameBuffers};
 ghost use Rattle.zarrs_chunk_batches.specs.declared.codes.Fault.TheVariants.{Memory};
-ghost use Rattle.zarrs_chunk_batches.specs.seen.Parts.{AreFoundParts, AreWrittenBelow, HasLists, IsKeyOf, IsLongPart, IsWritten};
+ghost use Rattle.zarrs_chunk_batches.specs.seen.Parts.{AreWrittenBelow, HasLists, IsKeyOf, IsLongPart, IsWritten};
 ghost use Rattle.zarrs_chunk_parts.specs.declared.part.Part.{Part};
+ghost use Rattle.zarrs_chunk_plan.specs.SomeParts.{AreSomeParts};
 ghost use Rattle.zarrs_chunk_prepared.specs.LookedUp.{HasNoCover};
 
 use crate::codes::Fault;
@@ -34,7 +35,8 @@ pub(crate) fn find_parts<G: ChunkGridTraits, E: ChunkKeyEncodingTraits>(
     requires { length elements.now.start ≡ length (G.dimensions grid.now) }
     ensures parts { IfOk result (λ found. MatchOption found
         (HasNoCover (G.dimensions grid.now) elements.now)
-        (AreFoundParts (G.dimensions grid.now) (E.is_key encoding.now) elements.now first most)) }
+        (λ some. AreSomeParts (G.dimensions grid.now) (E.is_key encoding.now) elements.now
+        first most some.in_all some.parts.items)) }
     ensures is_box { IsBox elements.now }
     ensures refused { IfErr result (λ fault. fault ≡ Memory) }
 {

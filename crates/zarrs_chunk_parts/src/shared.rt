@@ -69,7 +69,7 @@ pub fn shared_elements<G: ChunkGridTraits>(
     })
 }
 
-/// What a look-up finds that has something to find: where it doesn't, it is out of memory.
+/// What a look-up for something that is there finds. If it finds nothing, memory ran out.
 ///
 /// # Errors
 /// Out of memory.

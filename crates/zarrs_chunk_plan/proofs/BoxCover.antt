@@ -1,13 +1,13 @@
 -- The cover of a box, which may be empty.
 use Rattle.zarrs_chunk_plan.proofs.Common.{◌≡◌, ◌≢◌, ◌↔◌, ◌⊎◌, ◌∙◌, ℕ, zero, suc, ◌+◌, ◌<◌, ◌≤◌, List, [], ◌∷◌, Some, Ok, length, replicate, ap, ap₂}
 use Rattle.zarrs_chunk_plan.proofs.Common.{refl, subst, inl, ⊎_elim, arith, sym, cases_lt, length-map, length-replicate, AllByRecursion, AllZip}
-use Rattle.zarrs_chunk_plan.proofs.Common.{AreWithin, Box, IsBox, IsEmptyBox, IsInside, Dimension, Holds, InBox, IsChain, array_sizes}
+use Rattle.zarrs_chunk_plan.proofs.Common.{AreWithin, Box, Contains, IsBox, IsEmptyBox, IsInside, Dimension, Holds, InBox, IsChain, array_sizes}
 use Rattle.zarrs_chunk_plan.proofs.Common.{AreBelow, earlier_has, Meets, array_box, UsesFirst}
 use Rattle.zarrs_chunk_base.proofs.InEach.{length_numbers}
 use Rattle.zarrs_chunks.specs.Subsets.{AnswersCover, AnswersEmptyCover, LookedBox}
 use Rattle.zarrs_chunks.proofs.Chains.{apart}
 use Rattle.zarrs_chunk_plan.proofs.HeldBoxes.{hold_meets, meets_hold, some_chunks, uses_first, uses_none}
-use Rattle.zarrs_chunk_plan.proofs.Plans.{covers_any, empty_or_some}
+use Rattle.zarrs_chunk_plan.proofs.Plans.{covers_any, empty_or_some, not_empty_if_inside}
 
 -- an array without elements has dimensions
 pub some_dimension : (ds : List Dimension) → IsEmptyBox (array_box ds) → length ds ≢ 0
@@ -43,6 +43,10 @@ below_from_zero (suc n) (size ∷ shape) (c ∷ chunk) same =
       λ within. let less : c < 0 + size = within.1 in (omega arith, rest.1 within.2),
     )
 below_from_zero _ _ chunk same = absurd (omega arith)
+
+-- no list is below one that has a 0
+pub none_below_zero : (sizes list : List ℕ) → Contains sizes 0 → ¬ AreBelow sizes list
+none_below_zero sizes list has below = not_empty_if_inside _ sizes list ((below_from_zero (length sizes) sizes list refl).0 below) has
 
 -- ---- the chunks that a whole array takes up begin with the first one
 

@@ -1,5 +1,6 @@
 -- The parts of a plan: which elements they have, and that they differ.
 use Rattle.zarrs_chunk_plan.proofs.Common.{◌≡◌, ◌≢◌, ◌↔◌, ◌⊎◌, ◌∙◌, ℕ, zero, suc, ◌+◌, ◌<◌, List, [], ◌∷◌, Contains, get_or, length, refl, ap}
+use Rattle.zarrs_chunk_plan.proofs.Common.{None, Ok, Option, Result}
 use Rattle.zarrs_chunk_plan.proofs.Common.{ap₂, subst, sym, inl, inr, ⊎_elim, arith, AllZip-long, AllByRecursion, AllPairs, AllZip}
 use Rattle.zarrs_chunk_plan.proofs.Common.{AreWithin, Box, IsBox, IsEmptyBox, IsInside, zero_box, Dimension, Holds, InBox, IsChain, IsPlace, AllFit}
 use Rattle.zarrs_chunk_plan.proofs.Common.{within_lengths, length_values, AreBelow, row_major, IsCover, chunks_in, counted_from, same_box}
@@ -10,7 +11,12 @@ use Rattle.zarrs_chunk_base.proofs.Boxes.{zero_is_box}
 use Rattle.zarrs_chunk_base.proofs.FirstMembers.{contained}
 use Rattle.zarrs_chunks.proofs.Covers.{none_is_not_empty}
 use Rattle.zarrs_chunks.proofs.Meeting.{cover_holds}
+use Rattle.zarrs_chunk_base.specs.ArraySubset.{lasts}
+use Rattle.zarrs_chunk_base.specs.declared.incompatible_dimensionality_error.IncompatibleDimensionalityError.{IncompatibleDimensionalityError}
+use Rattle.zarrs_chunk_base.specs.declared.refusal.Refusal.{Refusal}
+use Rattle.zarrs_chunks.specs.Subsets.{HasNoHome}
 use Rattle.zarrs_chunk_parts.specs.Plan.{Covers}
+use Rattle.zarrs_chunk_plan.specs.seen.Parts.{FindsCovered, FindsSome}
 
 -- ---- the chunks of a plan
 
@@ -79,6 +85,20 @@ covers_any (d ∷ ds) b cover chains is_box if_empty if_some =
     let some : length (d ∷ ds) ≢ 0 = λ none. absurd (omega arith) in
     ⊎_elim (λ empty. subst (Covers (d ∷ ds) b) (sym (if_empty empty some)) (covers_none (d ∷ ds) b (length (d ∷ ds)) some empty))
     (λ filled. covers_some (d ∷ ds) b cover chains is_box filled (if_some (inl filled)).1) (empty_or_some b.shape)
+
+-- what isn't found as of an empty box is about one that isn't empty, or a grid without dimensions
+pub full_or_narrow : (ds : List Dimension) (b : Box) → (IsEmptyBox b → ¬ (length ds ≢ 0)) → (¬ IsEmptyBox b) ⊎ (length ds ≡ 0)
+full_or_narrow [] b never = inr refl
+full_or_narrow (d ∷ ds) b never = ⊎_elim (λ empty. absurd (never empty (λ none. absurd (omega arith)))) inl (empty_or_some b.shape)
+
+-- a box of which nothing is found isn't empty, and its first or its last element lies in no chunk
+pub none_found : {X : Type 0} (ds : List Dimension) (b : Box) (answer : Result (Option X) (Refusal IncompatibleDimensionalityError)) → answer ≡ Ok None
+    → IsBox b → (IsEmptyBox b → length ds ≢ 0 → FindsSome answer) → ((¬ IsEmptyBox b) ⊎ (length ds ≡ 0) → FindsCovered ds b answer)
+    → (¬ IsEmptyBox b) × (length b.start ≡ length ds) × (HasNoHome ds b.start ⊎ HasNoHome ds (lasts b.start b.shape))
+none_found ds b answer none is_box of_empty of_full =
+    let which = full_or_narrow ds b (λ empty wide. subst FindsSome none (of_empty empty wide)) in
+    let (same, homeless) = subst (FindsCovered ds b) none (of_full which) in
+    (⊎_elim (λ full. full) (λ narrow. none_is_not_empty b is_box (same ∙ narrow)) which, same, homeless)
 
 -- ---- numbers counted from starts
 

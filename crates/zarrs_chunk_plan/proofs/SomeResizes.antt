@@ -64,7 +64,7 @@ module _ (before after : List Dimension) (IsKey : List ℕ → List ℕ → Type
     becomes : (chunk : List ℕ) (one other : Option Held) → MayHold before chunk one → MayHold after chunk other → IsUsedByOne chunk
         → (what : Change) × IsChanged before after chunk what
     becomes chunk (Some _) (Some _) held holds used =
-        ⊎_elim (λ below. (Keep, (are.kept chunk).0 below)) (λ above. (Rewrite, (held.0, holds.0, λ kept. above ((are.kept chunk).1 kept))))
+        ⊎_elim (λ below. (Keep, (are.kept.those chunk).0 below)) (λ above. (Rewrite, (held.0, holds.0, λ kept. above ((are.kept.those chunk).1 kept))))
         (below_or_not uses.kept.items chunk)
     becomes chunk (Some _) None held holds used = (Delete, (held.0, holds))
     becomes chunk None (Some _) held holds used = (New, (holds.0, held))
@@ -75,8 +75,8 @@ module _ (before after : List Dimension) (IsKey : List ℕ → List ℕ → Type
         let first = has_held IsKey keys before chains fit chunk in
         let second = has_held IsKey keys after also_chains also_fit chunk in
         let (key, is) = ⊎_elim (λ is_used. (first is_used).2) (λ is_used. (second is_used).2) used in
-        let (one, held) = may_hold before chunk uses.before.items (are.used_before chunk) (λ is_used. ((first is_used).0, (first is_used).1)) in
-        let (other, holds) = may_hold after chunk uses.after.items (are.used_after chunk) (λ is_used. ((second is_used).0, (second is_used).1)) in
+        let (one, held) = may_hold before chunk uses.before.items (are.before_it.those chunk) (λ is_used. ((first is_used).0, (first is_used).1)) in
+        let (other, holds) = may_hold after chunk uses.after.items (are.after_it.those chunk) (λ is_used. ((second is_used).0, (second is_used).1)) in
         let (what, changed) = becomes chunk one other held holds used in (
           record { key = key; chunk = record { items = chunk; capacity = 0 }; before = one; after = other; what = what },
           record { numbers = refl; key = is; held = held; holds = holds; what = changed },

@@ -31,7 +31,7 @@ lies_tells (s ∷ start) (n ∷ shape) (e ∷ edges) =
     (λ (le : s + n ≤ e). rw (le-leb (s + n) e le) (λ is. (le, rest.0 is), λ lies. rest.1 lies.1)) (cases_lt e (s + n))
 lies_tells _ _ _ = (λ is. absurd (true≢false (sym is)), λ lies. absurd lies)
 
-zero_tells : (numbers : List ℕ) → (has_zero numbers ≡ true) ↔ Contains numbers 0
+pub zero_tells : (numbers : List ℕ) → (has_zero numbers ≡ true) ↔ Contains numbers 0
 zero_tells [] = (λ is. absurd (true≢false (sym is)), λ (k, small, is). absurd (omega arith))
 zero_tells (zero ∷ numbers) = (λ _. (zero, omega arith, refl), λ _. refl)
 zero_tells (suc n ∷ numbers) =

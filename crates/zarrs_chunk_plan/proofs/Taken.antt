@@ -41,10 +41,6 @@ no_parts R [] [] none are = refl
 no_parts R (_ ∷ _) ys none are = cc
 no_parts R [] (_ ∷ _) none are = absurd are
 
-pub none_taken : {X : Type 0} (first count : ℕ) (xs : List X) → xs ≡ [] → take count (drop first xs) ≡ []
-none_taken first count [] none = ap (take count) (drop-nil first) ∙ take-nil count
-none_taken first count (_ ∷ _) none = cc
-
 -- those up to an end that is at most as far as there are chunks in the box, and as were asked for
 pub some_of : {Y : Type 0} (R : List ℕ → Y → Type 0) (box : Box) (first most end in_all : ℕ) (ys : List Y)
     → in_all ≡ min (length (row_major box.shape)) greatest → end ≡ min (min (first + most) greatest) in_all
@@ -56,21 +52,3 @@ some_of R box first most end in_all ys counted ends are =
       counted ∙ ap (λ n. min n greatest) (sym lists),
       subst (λ n. AllZip R (take n (drop first (chunks_in box))) ys) same are,
     )
-
-module _ (ds : List Dimension) (IsKey : List ℕ → List ℕ → Type 0) (subset cover : Box) (first most : ℕ) where
-  pub some_of_plan : (end : ℕ) (some : SomeParts) → some.in_all ≡ min (length (row_major cover.shape)) greatest
-      → end ≡ min (min (first + most) greatest) some.in_all
-      → AllZip (IsPart ds IsKey subset) (take (end - first) (drop first (chunks_in cover))) some.parts.items
-      → AreSomeParts ds IsKey subset cover first most some
-  some_of_plan end some counted ends are =
-      let (all, parts) = some_of (IsPart ds IsKey subset) cover first most end some.in_all some.parts.items counted ends are in
-      record { in_all = all; are_parts = parts }
-
-  pub none_of_plan : (some : SomeParts) → AreSomeParts ds IsKey subset cover first most some → chunks_in cover ≡ []
-      → (some.in_all ≡ 0) × (some.parts.items ≡ [])
-  none_of_plan some are none =
-      let long : length (chunks_in cover) ≡ 0 = ap length none in
-      let counted = are.in_all in (
-        omega arith,
-        no_parts (IsPart ds IsKey subset) _ _ (none_taken first (min (some.in_all - first) most) (chunks_in cover) none) are.are_parts,
-      )

@@ -7,7 +7,6 @@ pub mod Rechunking
 pub mod Region
 pub mod Resize
 pub mod Shares
-pub mod SomeChunks
 pub mod SomeCopies
 pub mod SomeParts
 pub mod Stages

@@ -1,7 +1,7 @@
 -- An array that gets another shape: which of its chunks stay as they are stored, and which don't. What each chunk holds is said of two grids, that of
 -- the array as it was and that of the array as it is to be.
 -- Sources: Zarr V3 core, chunk grids and chunk key encodings; the plan of a resize is this library's own.
-use Rattle.std.specs.Prelude.{◌≡◌, ◌≢◌, ◌↔◌, ◌⊎◌, ◌<◌, ℕ, Bool, IsTrue, List, Option, MatchOption, length}
+use Rattle.std.specs.Prelude.{◌≡◌, ◌≢◌, ◌↔◌, ◌⊎◌, ◌<◌, ℕ, Bool, IsTrue, List, Option, MatchOption, length, replicate}
 use Rattle.std.specs.List.{AllPairs, AllZip, Contains}
 use Rattle.zarrs_chunk_base.specs.ArraySubset.{IsBox, IsInside}
 use Rattle.zarrs_chunk_base.specs.Dimension.{Dimension, Holds, InBox, IsShape, array_sizes}
@@ -77,12 +77,14 @@ pub record IsResizePlan (before after : List Dimension) (IsKey : List ℕ → Li
   pub are_chunks : AreChanged before after keeps chunks
   pub are_changes : AllZip (IsChange before after IsKey) chunks changes
 
--- Along each dimension, how many chunks hold elements of the array before the resize, and after it, and how many are kept. A chunk is one of them if
--- its numbers are below the list.
+-- The chunks of this property are those whose numbers are below a list, which has a number for each dimension. Without such a chunk each number is 0.
+pub record AreBelowCounts (dimensionality : ℕ) (P : List ℕ → Type 0) (counts : List ℕ) : Type 0 where
+  pub long : length counts ≡ dimensionality
+  pub those : (chunk : List ℕ) → AreBelow counts chunk ↔ P chunk
+  pub none : Contains counts 0 → counts ≡ replicate dimensionality 0
+
+-- along each dimension, how many chunks hold elements of the array before the resize, and after it, and how many are kept
 pub record AreChangedChunks (before after : List Dimension) (changed : ChangedChunks) : Type 0 where
-  pub long_before : length changed.before.items ≡ length before
-  pub long_after : length changed.after.items ≡ length after
-  pub long_kept : length changed.kept.items ≡ length before
-  pub used_before : (chunk : List ℕ) → AreBelow changed.before.items chunk ↔ IsUsed before chunk
-  pub used_after : (chunk : List ℕ) → AreBelow changed.after.items chunk ↔ IsUsed after chunk
-  pub kept : (chunk : List ℕ) → AreBelow changed.kept.items chunk ↔ IsKept before after chunk
+  pub before_it : AreBelowCounts (length before) (IsUsed before) changed.before.items
+  pub after_it : AreBelowCounts (length after) (IsUsed after) changed.after.items
+  pub kept : AreBelowCounts (length before) (IsKept before after) changed.kept.items

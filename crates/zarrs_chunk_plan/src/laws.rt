@@ -11,7 +11,7 @@
 //! | What a walk that `copies` or `copies_of_region` returns gives, one group after another, is the rechunking, or the copy of the region | [`the_walk_gives_the_copy`] |
 //! | Each element that goes into a chosen chunk is moved, place to place, by exactly one copy | [`each_element_is_copied_once`] |
 //! | Each chunk that takes some of a region has one group; one that is whole is written whole | [`each_chunk_has_one_group`] |
-//! | A copy whose part of the source is whole is the only one of that chunk | [`a_whole_part_is_the_only_one_of_its_chunk`] |
+//! | A copy of a rechunking whose part of the source is whole is the only one of that chunk | [`a_whole_part_is_the_only_one_of_its_chunk`] |
 //! | A rechunking the other way round has the same copies | [`the_other_way_round_has_the_same_copies`] |
 //! | Two rechunkings, the second of what the first one leaves, are together one | [`two_stages_are_together_one`] |
 //! | There are two stages by way of an intermediate array in chunks of each shape | [`there_are_two_stages`] |
@@ -261,8 +261,8 @@ pub fn each_chunk_has_one_group<
         × MovesTo (G.dimensions source.now.grid) (H.dimensions target.now.grid) copy steps from index) }
 {}
 
-/// A copy whose part of the source is whole, so that it has all elements of the array which that chunk holds, is the only one of this chunk. In a
-/// rechunking the other way round, as the order of the source is planned, that is a chunk of the target: nothing else writes it.
+/// In a rechunking a copy whose part of the source is whole, so that it has all elements of the array which that chunk holds, is the only one of this
+/// chunk. In a rechunking the other way round, as the order of the source is planned, that is a chunk of the target: nothing else writes it.
 pub fn a_whole_part_is_the_only_one_of_its_chunk<
     G: ChunkGridTraits,
     E: ChunkKeyEncodingTraits,
@@ -440,9 +440,9 @@ pub fn the_walk_gives_the_resize<G: ChunkGridTraits, H: ChunkGridTraits, E: Chun
         keeps changes }
 {}
 
-/// In the plan of a resize each chunk of which a change is asked for has one, and no other chunk has; where the grids are those of a resize
-/// no two are under one key. Where the kept chunks are
-/// wanted too, each chunk that either array uses has one. What becomes of a chunk is one of four things and no other.
+/// In the plan of a resize each chunk of which a change is asked for has one, and no other chunk has. If the grids are those of a resize, no two
+/// changes are under one key. If the kept chunks are wanted too, each chunk that either array uses has one. What becomes of a chunk is one of four
+/// things and no other.
 pub fn each_chunk_has_one_change<G: ChunkGridTraits, H: ChunkGridTraits, E: ChunkKeyEncodingTraits>(
     before: &G,
     after: &H,

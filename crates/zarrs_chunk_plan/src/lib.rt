@@ -57,7 +57,7 @@ pub use read::walk::Parts;
 pub use resize::changed::{ChangedChunks, changed_chunks};
 pub use resize::chunk_changes::Changes;
 pub use resize::plan::{Change, ChunkChange, Held, changes};
-pub use shares::numbered_chunks::{SomeChunks, some_chunks};
+pub use shares::numbered_chunks::{chunk_at, count_below};
 pub use shares::share::Share;
 pub use stored_array::StoredArray;
 pub use two_stages::largest::largest_chunk;

@@ -3,7 +3,7 @@
 //! | Module | What it holds |
 //! |---|---|
 //! | `chunks_between` | the walk over the chunks of a share |
-//! | `numbered_chunks` | the chunks in a box of chunk numbers, by their number; `some_chunks`: those from any one on |
+//! | `numbered_chunks` | the chunks in a box of chunk numbers, by their number: `chunk_at`; how many there are: `count_below` |
 //! | `share` | one of several shares of a plan |
 
 pub(crate) mod chunks_between;

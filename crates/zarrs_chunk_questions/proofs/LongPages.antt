@@ -69,11 +69,6 @@ all_filtered P p (x ∷ xs) all = kept (p x) (all_filtered P p xs all.1) where
 
 -- ---- walks
 
-pub few_lists : (walk : WalkOf) → lists_in walk ≤ 5
-few_lists Chunks = omega arith
-few_lists Boxes = omega arith
-few_lists ChunksAndBoxes = omega arith
-
 starts_long : (ds : List Dimension) (chunk : List ℕ) → length chunk ≡ length ds → length (starts_at ds chunk) ≡ length ds
 starts_long [] [] same = refl
 starts_long (d ∷ ds) (c ∷ chunk) same = ap suc (starts_long ds chunk (omega arith))

@@ -9,6 +9,7 @@ use Rattle.serde_json.specs.Data.{Data}
 use Rattle.serde_json.specs.View.{view}
 use Rattle.serde_json.specs.declared.value.Value.{Value}
 use Rattle.zarrs_chunk_base.specs.Dimension.{Dimension, IsChain, grid_sizes}
+use Rattle.zarrs_chunk_base.specs.Greatest.{greatest}
 use Rattle.zarrs_chunk_axes.specs.InBounds.{AreBelow}
 use Rattle.zarrs_chunk_axes.specs.RowMajor.{row_major}
 use Rattle.zarrs_chunk_axes.proofs.RowMajor.{all_below, all_follow}
@@ -18,14 +19,11 @@ use Rattle.zarrs_chunks.proofs.ChunksInBoxes.{length_below}
 use Rattle.zarrs_chunks.proofs.FittingChunks.{box_fits, box_is, found_box, found_none, no_box}
 use Rattle.zarrs_chunk_base.specs.ArraySubset.{Box}
 use Rattle.zarrs_chunk_plan.specs.Rechunking.{all_chunks_box}
-use Rattle.zarrs_chunk_plan.specs.SomeChunks.{AreSomeChunks}
-use Rattle.zarrs_chunk_plan.specs.declared.shares.numbered_chunks.SomeChunks.{SomeChunks}
 use Rattle.zarrs_chunk_plan.proofs.Rechunkings.{counted_from_zeros}
 use Rattle.zarrs_chunk_questions.specs.Pages.{chunks_from, is_more, item_tree, item_trees, count_of, page_from, page_tree}
 use Rattle.zarrs_chunk_questions.specs.declared.call.WalkOf.{WalkOf}
 use Rattle.zarrs_chunk_questions.specs.declared.call.WalkOf.TheVariants.{Boxes, Chunks, ChunksAndBoxes}
 use Rattle.zarrs_chunk_questions.specs.seen.Walked.{IsFirstPage, IsItemOf}
-use Rattle.zarrs_chunk_questions.proofs.Listed.{numbers_are}
 
 -- ---- from the beginning
 
@@ -71,17 +69,10 @@ all_counted ds =
 pub all_below_grid : (ds : List Dimension) → AllByRecursion (AreBelow (grid_sizes ds)) (chunks_in (all_chunks_box ds))
 all_below_grid ds = rw (all_counted ds) (all_below (grid_sizes ds))
 
--- the chunks that were wanted
-pub chunks_wanted : (ds : List Dimension) (first most : ℕ) (some : SomeChunks) → AreSomeChunks (all_chunks_box ds) first most some
-    → (some.in_all ≡ count_of (chunks_of ds)) × (map (λ chunk. chunk.items) some.chunks.items ≡ chunks_from first most (chunks_of ds))
-chunks_wanted ds first most some are =
-    let in_all : some.in_all ≡ count_of (chunks_of ds) = are.in_all ∙ ap count_of (all_counted ds) in
-    let listed =
-    numbers_are (λ chunk. chunk.items) (take (min (some.in_all - first) most) (drop first (chunks_in (all_chunks_box ds))))
-    some.chunks.items are.are_chunks in (
-      in_all,
-      listed ∙ ap₂ (λ count chunks. take (min (count - first) most) (drop first chunks)) in_all (all_counted ds),
-    )
+-- how many there are, as they are counted below the grid's shape
+pub counted_all : (ds : List Dimension) (shape : List ℕ) (in_all : ℕ) → shape ≡ grid_sizes ds → in_all ≡ min (length (row_major shape)) greatest
+    → in_all ≡ count_of (chunks_of ds)
+counted_all ds shape in_all same counted = counted ∙ ap (λ sizes. min (length (row_major sizes)) greatest) same
 
 -- ---- the items of chunks, one chunk after another
 
@@ -128,64 +119,31 @@ fewer_items walk ds few many xs le =
         let less : suc many - suc few ≡ many - few = omega arith in
         rw less (ap (λ ys. x ∷ ys) (take_parts few many xs (omega arith)))
 
--- the items of a chunk with a number
-module _ (walk : WalkOf) (ds : List Dimension) (number : ℕ) (some : SomeChunks) (are : AreSomeChunks (all_chunks_box ds) number 1 some) where
-  at_most_one : length some.chunks.items ≤ 1
-  at_most_one =
-      let long = ap length (chunks_wanted ds number 1 some are).1 in
-      let mapped = length-map some.chunks.items (λ chunk. chunk.items) in
-      let taken = length-take (min (count_of (chunks_of ds) - number) 1) (drop number (chunks_of ds)) in
-      omega arith
+-- the items of the chunk with a number
+pub item_of_number : (walk : WalkOf) (ds : List Dimension) (number : ℕ) (chunk : List ℕ) → number < count_of (chunks_of ds)
+    → slice_get (chunks_of ds) number ≡ Some chunk → (result : Result (Option Value) AllocError) → IfOk result (IsItemOf walk ds chunk)
+    → IfOk result (λ found. map view (option_to_list found) ≡ item_trees walk ds (chunks_from number 1 (chunks_of ds)))
+item_of_number walk ds number chunk below at (Err _) is = tt
+item_of_number walk ds number chunk below at (Ok found) is = of_found found is ∙ ap (item_trees walk ds) (sym one) where
+  taken_one : (n : ℕ) (xs : List (List ℕ)) → slice_get xs n ≡ Some chunk → take 1 (drop n xs) ≡ chunk ∷ []
+  taken_one n [] is = absurd (grind arith)
+  taken_one zero (x ∷ xs) is = ap (λ y. y ∷ []) (grind arith)
+  taken_one (suc n) (x ∷ xs) is = taken_one n xs is
 
-  pub item_of_none : length some.chunks.items ≡ 0 → [] ≡ item_trees walk ds (chunks_from number 1 (chunks_of ds))
-  item_of_none none =
-      let same = (chunks_wanted ds number 1 some are).1 in
-      let empty = none_listed some.chunks.items none in
-      sym (ap (item_trees walk ds) (sym same ∙ ap (map (λ chunk. chunk.items)) empty) ∙ no_items walk ds)
-    where
-      none_listed : {X : Type 0} (xs : List X) → length xs ≡ 0 → xs ≡ []
-      none_listed [] same = refl
-      none_listed (x ∷ xs) same = absurd (omega arith)
+  one : chunks_from number 1 (chunks_of ds) ≡ chunk ∷ []
+  one =
+      let single : min (count_of (chunks_of ds) - number) 1 ≡ 1 = omega arith in
+      ap (λ n. take n (drop number (chunks_of ds))) single ∙ taken_one number (chunks_of ds) at
 
-  pub item_of_one : (chunk : List ℕ) (found : Option Value) → slice_get (map (λ chunk. chunk.items) some.chunks.items) 0 ≡ Some chunk
-      → IsItemOf walk ds chunk found → map view (option_to_list found) ≡ item_trees walk ds (chunks_from number 1 (chunks_of ds))
-  item_of_one chunk found first is =
-      let same = (chunks_wanted ds number 1 some are).1 in
-      let mapped = length-map some.chunks.items (λ chunk. chunk.items) in
-      let few = at_most_one in
-      let one = one_listed (map (λ chunk. chunk.items) some.chunks.items) chunk (omega arith) first in
-      of_found found is ∙ ap (item_trees walk ds) (sym one ∙ same)
-    where
-      one_listed : {X : Type 0} (xs : List X) (x : X) → length xs ≤ 1 → slice_get xs 0 ≡ Some x → xs ≡ x ∷ []
-      one_listed [] x few is = absurd (grind arith)
-      one_listed (y ∷ []) x few is = ap (λ z. z ∷ []) (grind arith)
-      one_listed (y ∷ z ∷ xs) x few is = absurd (omega arith)
-
-      of_found : (found : Option Value) → IsItemOf walk ds chunk found → map view (option_to_list found) ≡ item_trees walk ds (chunk ∷ [])
-      of_found (Some item) is = sym is
-      of_found None is = sym is
-
-  -- of what was made
-  pub items_of_one : (chunk : List ℕ) (result : Result (Option Value) AllocError)
-      → slice_get (map (λ chunk. chunk.items) some.chunks.items) 0 ≡ Some chunk → IfOk result (IsItemOf walk ds chunk)
-      → IfOk result (λ found. map view (option_to_list found) ≡ item_trees walk ds (chunks_from number 1 (chunks_of ds)))
-  items_of_one chunk (Ok found) first is = item_of_one chunk found first is
-  items_of_one chunk (Err _) first is = tt
-
-pub mapped_first : {X Y : Type 0} (f : X → Y) (xs : List X) (x : X) → slice_get xs 0 ≡ Some x → slice_get (map f xs) 0 ≡ Some (f x)
-mapped_first f [] x is = absurd (grind arith)
-mapped_first f (y ∷ xs) x is = let same : y ≡ x = grind arith in ap (λ z. Some (f z)) same
+  of_found : (found : Option Value) → IsItemOf walk ds chunk found → map view (option_to_list found) ≡ item_trees walk ds (chunk ∷ [])
+  of_found (Some item) is = sym is
+  of_found None is = sym is
 
 -- with the item of one chunk more
 pub one_pushed : (items more : List Value) (found : Option Value) (trees next : List Data) → map view items ≡ trees
     → map view (option_to_list found) ≡ next → more ≡ items ++ option_to_list found → map view more ≡ trees ++ next
 one_pushed items more found trees next same also is =
     ap (map view) is ∙ map-append view items (option_to_list found) ∙ ap₂ (λ xs ys. xs ++ ys) same also
-
--- what holds of each holds of the first
-pub first_has : {X : Type 0} (P : X → Type 0) (xs : List X) (x : X) → slice_get xs 0 ≡ Some x → AllByRecursion P xs → P x
-first_has P [] x is all = absurd (grind arith)
-first_has P (y ∷ xs) x is all = let same : y ≡ x = grind arith in subst P same all.0
 
 -- ---- from a number on, so many chunks
 

@@ -5,7 +5,7 @@ use Rattle.std.specs.Prelude.{Option, Some, None, Result, Ok}
 use Rattle.std.specs.List.{AllZip}
 use Rattle.serde_json.specs.Data.{Data, array, boolean, member, no_members, null, object, string}
 use Rattle.serde_json.specs.View.{items_of}
-use Rattle.zarrs_chunk_base.specs.ArraySubset.{Box, IsBox, IsEmptyBox, IsInside}
+use Rattle.zarrs_chunk_base.specs.ArraySubset.{Box, IsBox, IsEmptyBox, IsInside, lasts}
 use Rattle.zarrs_chunk_base.specs.Dimension.{Dimension}
 use Rattle.zarrs_chunk_base.specs.Greatest.{greatest}
 use Rattle.zarrs_chunk_base.specs.Grid.{Grid}
@@ -14,13 +14,11 @@ use Rattle.zarrs_chunk_base.specs.declared.refusal.Refusal.{Refusal}
 use Rattle.zarrs_chunk_keys.specs.ChunkKey.{Encoding, IsKey}
 use Rattle.zarrs_chunk_keys.specs.KeyKinds.{IsEncodingIn}
 use Rattle.zarrs_chunks.specs.GridKinds.{GridKind, IsGridIn}
-use Rattle.zarrs_chunks.specs.Subsets.{IsCover}
-use Rattle.zarrs_chunks.specs.Walks.{box_at, boxed, chunks_in, chunks_of}
-use Rattle.zarrs_chunk_parts.specs.Plan.{IsPart}
+use Rattle.zarrs_chunks.specs.Subsets.{HasNoHome}
+use Rattle.zarrs_chunks.specs.Walks.{box_at, boxed, chunks_of}
 use Rattle.zarrs_chunk_plan.specs.Rechunking.{Group, all_chunks_box, array_box}
 use Rattle.zarrs_chunk_plan.specs.SomeCopies.{AreSomeGroups}
-use Rattle.zarrs_chunk_plan.specs.SomeParts.{AnswersNone, AnswersSome}
-use Rattle.zarrs_chunk_plan.specs.declared.read.numbered_parts.SomeParts.{SomeParts}
+use Rattle.zarrs_chunk_plan.specs.SomeParts.{AreSomeParts}
 use Rattle.zarrs_chunk_parts.specs.declared.part.Part.{Part}
 use Rattle.zarrs_chunk_questions.specs.Question.{Items, Lists, Target}
 use Rattle.zarrs_chunk_questions.specs.Trees.{box_of, box_tree, numbers_tree}
@@ -94,26 +92,16 @@ part_tree part =
 abbrev pub parts_tree : (first in_all : ℕ) → List Part → Data
 parts_tree first in_all parts = page_tree (map part_tree parts) (is_more first (length parts) in_all)
 
--- parts of the plan of a box, none of an empty one, or why there are none
-abbrev pub AnswersPartsOf : List Dimension → (List ℕ → List ℕ → Type 0) → Box → (first most : ℕ)
-    → Result (Option SomeParts) (Refusal IncompatibleDimensionalityError) → Type 0
-AnswersPartsOf ds HasKey b first most answer =
-    (IsEmptyBox b → length ds ≢ 0 → AnswersNone answer) × ((¬ IsEmptyBox b) ⊎ (length ds ≡ 0) → AnswersSome ds HasKey b first most answer)
-
--- how many parts the plan of a box has, as far as a number counts them, and at most so many of them, from the one with this number on; an empty box
--- has none
-abbrev pub ArePartsFrom : List Dimension → (List ℕ → List ℕ → Type 0) → Box → (first most in_all : ℕ) → List Part → Type 0
-ArePartsFrom ds HasKey b first most in_all parts =
-    (IsEmptyBox b → length ds ≢ 0 → (in_all ≡ 0) × (parts ≡ []))
-    × ((¬ IsEmptyBox b) ⊎ (length ds ≡ 0)
-    → (length b.start ≡ length ds) × (cover : Box) × IsCover ds b cover × (in_all ≡ min (length (chunks_in cover)) greatest)
-    × AllZip (IsPart ds HasKey b) (take (min (in_all - first) most) (drop first (chunks_in cover))) parts)
+-- The box isn't empty, and its first or its last element lies in no chunk.
+abbrev pub HasNoPlan : List Dimension → Box → Type 0
+HasNoPlan ds b =
+    (¬ IsEmptyBox b) × (length b.start ≡ length ds) × (HasNoHome ds b.start ⊎ HasNoHome ds (lasts b.start b.shape))
 
 -- null, where the box has no plan; or the parts
 abbrev pub IsPartsAnswer : List Dimension → (List ℕ → List ℕ → Type 0) → Box → (first most : ℕ) → Data → Type 0
 IsPartsAnswer ds HasKey b first most t =
-    ((t ≡ null) × AnswersPartsOf ds HasKey b first most (Ok None))
-    ⊎ ((in_all : ℕ) × (parts : List Part) × ArePartsFrom ds HasKey b first most in_all parts × (t ≡ parts_tree first in_all parts))
+    ((t ≡ null) × HasNoPlan ds b)
+    ⊎ ((in_all : ℕ) × (parts : List Part) × AreSomeParts ds HasKey b first most in_all parts × (t ≡ parts_tree first in_all parts))
 
 abbrev pub IsSomePartsAnswer : Data → Items → Lists → Grid → Data → Type 0
 IsSomePartsAnswer tree items lists grid t =

@@ -2,7 +2,7 @@
 -- Sources: Zarr V3 core, chunk grids and chunk key encodings; the order is this library's own.
 use Rattle.std.specs.Prelude.{◌≡◌, ◌≢◌, ◌⊎◌, ℕ, IfSome, List, length, string_bytes, codes, Err, Option, Some, None, Result}
 use Rattle.serde_json.specs.Data.{Data}
-use Rattle.zarrs_chunk_base.specs.ArraySubset.{Box, IsBox}
+use Rattle.zarrs_chunk_base.specs.ArraySubset.{Box, IsBox, IsEmptyBox}
 use Rattle.zarrs_chunk_base.specs.ArraySubsetError.{IsBoxFault}
 use Rattle.zarrs_chunk_base.specs.Dimension.{Dimension, array_sizes}
 use Rattle.zarrs_chunk_base.specs.Grid.{Grid}
@@ -12,14 +12,14 @@ use Rattle.zarrs_chunk_base.specs.declared.extension_error.ExtensionError.{Exten
 use Rattle.zarrs_chunk_base.specs.declared.incompatible_dimensionality_error.IncompatibleDimensionalityError.{IncompatibleDimensionalityError}
 use Rattle.zarrs_chunk_base.specs.declared.refusal.Refusal.{Refusal}
 use Rattle.zarrs_chunk_base.specs.declared.refusal.Refusal.TheVariants.{Refused}
-use Rattle.zarrs_chunk_keys.specs.ChunkKey.{Encoding, IsKey}
+use Rattle.zarrs_chunk_keys.specs.ChunkKey.{Encoding}
 use Rattle.zarrs_chunk_keys.specs.KeyKinds.{IsEncodingIn, IsNoEncodingIn}
 use Rattle.zarrs_chunks.specs.GridKinds.{GridKind, IsGridIn, IsNoGridIn, rectilinear}
 use Rattle.zarrs_chunks.specs.Subsets.{AnswersChunksSubset}
 use Rattle.zarrs_chunk_plan.specs.Region.{IsRegionFault}
 use Rattle.zarrs_chunk_plan.specs.seen.Copies.{IsCopiesFault}
 use Rattle.zarrs_chunk_questions.specs.Answers.{AnswersCoverOf}
-use Rattle.zarrs_chunk_questions.specs.Pages.{AnswersPartsOf, target_chunks}
+use Rattle.zarrs_chunk_questions.specs.Pages.{target_chunks}
 use Rattle.zarrs_chunk_questions.specs.Question.{Asked, BytesAsked, Lists, Question, RegionAsked, Target, TargetArray, byte_ranges, changed_chunks, copies}
 use Rattle.zarrs_chunk_questions.specs.Question.{copies_of_region, counted}
 use Rattle.zarrs_chunk_questions.specs.Question.{counts, counts_of_region, decode, encode, located, of_array, of_box, of_grid, of_numbers}
@@ -88,16 +88,16 @@ abbrev pub IsLocatedRefusal : Data → (given expected : ℕ) → LineFault → 
 IsLocatedRefusal tree given expected fault =
     IsNoEncoding tree fault ⊎ ((encoding : Encoding) × IsEncodingIn tree encoding × IsLengthFault given expected fault)
 
--- why a plan has no parts
-abbrev pub IsPartsRefusal : List Dimension → (List ℕ → List ℕ → Type 0) → Box → LineFault → Type 0
-IsPartsRefusal ds HasKey b fault = (first most : ℕ) × IsErrorOf (AnswersPartsOf ds HasKey b first most) fault
+-- why a box has no parts: it has another number of dimensions. Of an empty box that is said only in a grid without dimensions.
+abbrev pub IsPartsRefusal : List Dimension → Box → LineFault → Type 0
+IsPartsRefusal ds b fault = ((¬ IsEmptyBox b) ⊎ (length ds ≡ 0)) × IsLengthFault (length b.start) (length ds) fault
 
 -- there is no encoding; or no box; or the box has another number of dimensions
 abbrev pub IsSomePartsRefusal : Data → Lists → Grid → LineFault → Type 0
 IsSomePartsRefusal tree lists grid fault =
     IsNoEncoding tree fault
     ⊎ ((encoding : Encoding) × IsEncodingIn tree encoding
-    × (IsNoBox (box_of lists) fault ⊎ (IsBox (box_of lists) × IsPartsRefusal grid.dimensions (IsKey encoding) (box_of lists) fault)))
+    × (IsNoBox (box_of lists) fault ⊎ (IsBox (box_of lists) × IsPartsRefusal grid.dimensions (box_of lists) fault)))
 
 -- it is the fault of the target's grid or encoding
 abbrev pub IsOfTarget : (LineFault → Type 0) → LineFault → Type 0

@@ -1,20 +1,19 @@
 //! How many items of a walk and of a plan are given.
-ghost use Rattle.std.specs.Prelude.{◌≡◌, ◌==◌, ◌+◌, ◌*◌, ◌<◌, ◌≤◌, min};
+ghost use Rattle.std.specs.Prelude.{◌≡◌, ◌==◌, ◌+◌, ◌*◌, ◌<◌, min};
 
 /// How many items are given.
 #[derive(Drop)]
 pub(crate) struct Limits {
     /// At most so many.
     pub(crate) most: u64,
-    /// So many are longer, as text, than there is room for.
+    /// The texts of so many items are together longer than there is room for.
     pub(crate) too_many: u128,
 }
 
 impl Limits {
     /// The limits of at most so many items, where so many bytes have room and each item has so many lists of so many numbers. The text of a number has
     /// a digit and what follows it, and that of an item one byte more.
-    pub(crate) fn new(most: u64, lists: usize, width: usize, room: usize) -> Limits
-        requires { lists ≤ 5 }
+    pub(crate) fn new(most: u64, lists: u8, width: usize, room: usize) -> Limits
         ensures most { result.most ≡ most }
         ensures full { room < result.too_many * (2 * (lists * width) + 1) }
     {

@@ -1,5 +1,5 @@
 //! The items of a walk, and of a plan, from one of them on: those before it take no time.
-ghost use Rattle.std.specs.Prelude.{◌≡◌, ◌≤◌, ◌+◌, ◌*◌, IfOk, MatchOption, MatchResult, length, map, option_to_list};
+ghost use Rattle.std.specs.Prelude.{◌≡◌, ◌<◌, ◌≤◌, ◌+◌, ◌*◌, IfOk, MatchOption, MatchResult, length, map, option_to_list};
 ghost use Rattle.serde_json.specs.View.{view};
 ghost use Rattle.zarrs_chunk_axes.specs.InBounds.{AreBelow};
 ghost use Rattle.zarrs_chunk_base.specs.Dimension.{grid_sizes};
@@ -9,7 +9,7 @@ ghost use Rattle.zarrs_chunk_keys.specs.seen.Encodings.{encoding_in};
 ghost use Rattle.zarrs_chunks.specs.seen.Grids.{grid_in};
 ghost use Rattle.zarrs_chunk_plan.specs.Rechunking.{all_chunks_box};
 ghost use Rattle.zarrs_chunks.specs.Walks.{chunks_of};
-ghost use Rattle.zarrs_chunk_questions.specs.Pages.{IsPartsAnswer, chunks_from, is_more, item_trees as trees_of_items, page_from};
+ghost use Rattle.zarrs_chunk_questions.specs.Pages.{IsPartsAnswer, chunks_from, count_of, is_more, item_trees as trees_of_items, page_from};
 ghost use Rattle.zarrs_chunk_questions.specs.Pages.{page_tree as tree_of_page};
 ghost use Rattle.zarrs_chunk_questions.specs.Pages.{part_tree as tree_of_part};
 ghost use Rattle.zarrs_chunk_questions.specs.Refused.{IsPartsRefusal};
@@ -26,12 +26,12 @@ use serde_json::{Map, Value};
 use std::alloc::{AllocError, Global};
 use zarrs_chunk_base::{ArraySubset, Refusal, write_box, write_list};
 use zarrs_chunk_keys::ChunkKeyEncoding;
-use zarrs_chunk_plan::{Part, all_chunks, some_chunks, some_parts};
+use zarrs_chunk_plan::{Part, all_chunks, chunk_at, count_below, some_parts};
 use zarrs_chunks::{ChunkGrid, ChunkGridTraits};
 
 impl WalkOf {
     /// How many lists of numbers an item has.
-    pub(crate) fn lists(self) -> usize
+    pub(crate) fn lists(self) -> u8
         ensures { result ≡ lists_in self }
     {
         match self {
@@ -106,8 +106,8 @@ pub(crate) fn items_from<G: ChunkGridTraits>(
         (λ tree. view tree ≡ page_from walk (G.dimensions grid.now) first limits.now.most)) }
 {
     let chunks = all_chunks(alloc, grid)?;
-    let some = some_chunks(alloc, &chunks, first, 0)?;
-    let count = limits.most.min(some.in_all.saturating_sub(first));
+    let in_all = count_below(chunks.shape());
+    let count = limits.most.min(in_all.saturating_sub(first));
     let mut items = Vec::new(alloc);
     for passed in 0..count {
         if let Some(item) = item_at(alloc, grid, walk, &chunks, first + passed)? {
@@ -117,7 +117,7 @@ pub(crate) fn items_from<G: ChunkGridTraits>(
             return Ok(None);
         }
     }
-    Ok(Some(page_tree(alloc, items, first, count, some.in_all)?))
+    Ok(Some(page_tree(alloc, items, first, count, in_all)?))
 }
 
 /// The tree of what a walk gives of the chunk with this number, of all chunks that a grid counts; `None` where it gives boxes, and the chunk has
@@ -132,16 +132,14 @@ fn item_at<G: ChunkGridTraits>(
     chunks: &ArraySubset,
     number: u64,
 ) -> Result<Option<Value>, AllocError>
-    requires { chunks.now ≡ all_chunks_box (G.dimensions grid.now) }
+    requires all { chunks.now ≡ all_chunks_box (G.dimensions grid.now) }
+    requires within { number < count_of (chunks_of (G.dimensions grid.now)) }
     ensures { IfOk result (λ found. map view (option_to_list found)
         ≡ trees_of_items walk (G.dimensions grid.now)
         (chunks_from number 1 (chunks_of (G.dimensions grid.now)))) }
 {
-    let some = some_chunks(alloc, chunks, number, 1)?;
-    match some.chunks.first() {
-        Some(chunk) => walk.item_of(alloc, grid, chunk.as_slice()),
-        None => Ok(None),
-    }
+    let chunk = chunk_at(alloc, chunks, number)?;
+    walk.item_of(alloc, grid, chunk.as_slice())
 }
 
 /// The tree of the parts of the plan of reading a box of elements, from the one with this number on; `null` where it has no plan. `None` where there
@@ -161,15 +159,14 @@ pub(crate) fn parts_from(
         (limits.now.too_many * (2 * (5 * length (grid_in grid.now).dimensions) + 1))
         (IsPartsAnswer (grid_in grid.now).dimensions (IsKey (encoding_in encoding.now))
         elements.now first limits.now.most))
-        (OrMemory (IsPartsRefusal (grid_in grid.now).dimensions (IsKey (encoding_in encoding.now))
-        elements.now)) }
+        (OrMemory (IsPartsRefusal (grid_in grid.now).dimensions elements.now)) }
 {
+    elements.is_a_box();
     let most = limits.wanted() as usize;
     let Some(some) = found(some_parts(alloc, grid, encoding, elements, first, most))? else {
         return Ok(Some(Value::Null));
     };
     if limits.is_too_many(some.parts.len()) {
-        elements.is_a_box();
         return Ok(None);
     }
     let items = part_trees(alloc, &some.parts)?;

@@ -1,12 +1,7 @@
 -- Parts that were found, and what is written of them.
 use Rattle.std.specs.Prelude.{◌≡◌, ℕ, ◌<◌, List, Some, length}
 use Rattle.std.specs.List.{slice_get}
-use Rattle.zarrs_chunk_base.specs.ArraySubset.{Box}
-use Rattle.zarrs_chunk_base.specs.Dimension.{Dimension}
 use Rattle.zarrs_chunk_parts.specs.declared.part.Part.{Part}
-use Rattle.zarrs_chunk_plan.specs.SomeParts.{AreSomeParts}
-use Rattle.zarrs_chunk_plan.specs.declared.read.numbered_parts.SomeParts.{SomeParts}
-use Rattle.zarrs_chunk_prepared.specs.LookedUp.{IsCoverOf}
 use Rattle.zarrs_chunk_batches.specs.Batch.{list_at}
 use Rattle.zarrs_chunk_batches.specs.declared.structs.PartBuffers.{PartBuffers}
 use Rattle.zarrs_chunk_batches.specs.seen.Lists.{HasList}
@@ -40,7 +35,3 @@ AreWrittenBelow count width parts buffers =
 -- the text is the key of the part with this number
 abbrev pub IsKeyOf : List Part → ℕ → List ℕ → Type 0
 IsKeyOf parts number key = (part : Part) → slice_get parts number ≡ Some part → key ≡ part.key
-
--- some of the parts of the plan of a box, empty or not
-abbrev pub AreFoundParts : List Dimension → (List ℕ → List ℕ → Type 0) → Box → (first most : ℕ) → SomeParts → Type 0
-AreFoundParts ds IsKey subset first most some = (cover : Box) × IsCoverOf ds subset cover × AreSomeParts ds IsKey subset cover first most some

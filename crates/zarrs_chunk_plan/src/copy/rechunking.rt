@@ -140,6 +140,7 @@ pub(crate) fn chunks_of_array<G: ChunkGridTraits>(
     ensures each { IfOk result (λ chunks. AllZip UsesFirst (G.dimensions grid.now) chunks.shape) }
     ensures empty { IsEmptyBox array.now → IfOk result (λ chunks. chunks
         ≡ zero_box (length (G.dimensions grid.now))) }
+    ensures some { (¬ IsEmptyBox array.now) → IfOk result (λ chunks. ¬ IsEmptyBox chunks) }
 {
     array.is_a_box();
     let cover = grid.chunks_in_array_subset(alloc, array);

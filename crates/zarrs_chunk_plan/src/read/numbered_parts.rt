@@ -1,10 +1,11 @@
 //! Some of the parts of a box of elements, from any one on.
-ghost use Rattle.std.specs.Prelude.{◌≡◌, ◌≢◌, ◌⊎◌, ◌-◌, ◌≤◌, IfOk, drop, length, take};
+ghost use Rattle.std.specs.Prelude.{◌≡◌, ◌≢◌, ◌⊎◌, ◌-◌, ◌≤◌, IfOk, IfSome, drop, length, take};
 ghost use Rattle.std.specs.List.{AllByRecursion, AllZip};
 ghost use Rattle.zarrs_chunk_base.specs.ArraySubset.{IsEmptyBox};
 ghost use Rattle.zarrs_chunks.specs.Walks.{chunks_in};
 ghost use Rattle.zarrs_chunk_parts.specs.Plan.{IsPart, Meets};
-ghost use Rattle.zarrs_chunk_plan.specs.SomeParts.{AnswersNone, AnswersSome};
+ghost use Rattle.zarrs_chunk_plan.specs.SomeParts.{AreSomeParts};
+ghost use Rattle.zarrs_chunk_plan.specs.seen.Parts.{FindsCovered, FindsSome};
 
 use crate::shares::numbered_chunks::{chunk_at, count_below};
 use std::alloc::{AllocError, Global};
@@ -37,11 +38,13 @@ pub fn some_parts<G: ChunkGridTraits, E: ChunkKeyEncodingTraits>(
     first: u64,
     most: usize,
 ) -> Result<Option<SomeParts>, Refusal<IncompatibleDimensionalityError>>
+    ensures parts { IfOk result (λ found. IfSome found (λ some. AreSomeParts
+        (G.dimensions grid.now) (E.is_key encoding.now) array_subset.now
+        first most some.in_all some.parts.items)) }
     ensures empty { IsEmptyBox array_subset.now → length (G.dimensions grid.now) ≢ 0
-        → AnswersNone result }
+        → FindsSome result }
     ensures answers { (¬ IsEmptyBox array_subset.now) ⊎ (length (G.dimensions grid.now) ≡ 0)
-        → AnswersSome (G.dimensions grid.now) (E.is_key encoding.now) array_subset.now
-        first most result }
+        → FindsCovered (G.dimensions grid.now) array_subset.now result }
 {
     array_subset.is_a_box();
     let cover = grid.chunks_in_array_subset(alloc, array_subset)?;

@@ -9,7 +9,7 @@ ghost use Rattle.zarrs_chunk_plan.specs.seen.Outside.{AreOnce, IsOutside, IsTold
 use crate::resize::changed::ChangedChunks;
 use crate::resize::chunk_changes::Changes;
 use crate::resize::outside::{below, outside};
-use crate::resize::used::{kept_along, used_along};
+use crate::resize::used::{kept_along, or_zeros, used_along};
 use std::alloc::{AllocError, Global};
 use zarrs_chunk_base::{ArraySubset, IncompatibleDimensionalityError, Refusal, StoreKey};
 use zarrs_chunk_keys::ChunkKeyEncodingTraits;
@@ -134,7 +134,7 @@ pub(crate) fn uses_of<G: ChunkGridTraits, H: ChunkGridTraits>(
     Ok(ChangedChunks {
         before: used_before,
         after: used_after,
-        kept,
+        kept: or_zeros(kept),
     })
 }
 

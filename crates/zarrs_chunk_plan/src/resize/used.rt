@@ -1,8 +1,9 @@
 //! How many chunks of a grid hold elements of its array along each dimension, and how many of them a resize keeps.
-ghost use Rattle.std.specs.Prelude.{◌≡◌, ◌↔◌, ◌<◌, ◌≤◌, ℕ, IfOk, List, length};
+ghost use Rattle.std.specs.Prelude.{◌≡◌, ◌↔◌, ◌<◌, ◌≤◌, ℕ, IfOk, List, length, replicate};
+ghost use Rattle.std.specs.List.{Contains};
 ghost use Rattle.zarrs_chunk_axes.specs.InBounds.{AreBelow};
 ghost use Rattle.zarrs_chunk_plan.specs.Rechunking.{array_box};
-ghost use Rattle.zarrs_chunk_plan.specs.Resize.{AreResized, IsHeld, IsKept, IsUsed};
+ghost use Rattle.zarrs_chunk_plan.specs.Resize.{AreBelowCounts, AreResized, IsHeld, IsKept, IsUsed};
 ghost use Rattle.zarrs_chunk_plan.specs.seen.Used.{HasExtentAlong, KeepsAlong};
 
 use crate::boxes_from_zero::whole_array;
@@ -22,9 +23,8 @@ pub(crate) fn used_along<G: ChunkGridTraits>(
     alloc: Global,
     grid: &G,
 ) -> Result<ArrayShape, AllocError>
-    ensures used { IfOk result (λ used. (chunk : List ℕ) → AreBelow used.items chunk
-        ↔ IsUsed (G.dimensions grid.now) chunk) }
-    ensures lengths { IfOk result (λ used. length used.items ≡ length (G.dimensions grid.now)) }
+    ensures { IfOk result (λ used. AreBelowCounts (length (G.dimensions grid.now))
+        (IsUsed (G.dimensions grid.now)) used.items) }
 {
     let array = whole_array(alloc, grid)?;
     let chunks = chunks_of_array(alloc, grid, &array)?;
@@ -82,6 +82,18 @@ pub(crate) fn kept_along<G: ChunkGridTraits, H: ChunkGridTraits>(
         kept.push(kept_in(alloc, before, after, dimension, both)?)?;
     }
     Ok(kept)
+}
+
+/// The numbers, or zeros if one of them is 0: no list is below either then.
+pub(crate) fn or_zeros(mut numbers: ArrayShape) -> ArrayShape
+    ensures long { length result.items ≡ length numbers.items }
+    ensures those { (list : List ℕ) → AreBelow result.items list ↔ AreBelow numbers.items list }
+    ensures none { Contains result.items 0 → result.items ≡ replicate (length numbers.items) 0 }
+{
+    if numbers.contains(&0) {
+        numbers.fill(0);
+    }
+    numbers
 }
 
 /// Returns how many of the first `both` chunks along a dimension, which hold elements of both arrays, a resize keeps. Only the last of them may differ.

@@ -24,9 +24,7 @@ write_parts-requires-clause-room g c k less =
 
 pub write_parts-requires-clause-long : goal.write_parts-requires-clause-long
 write_parts-requires-clause-long g c =
-    let found = c.in_ok-some.ensures in
-    rw (c.deref.ensures.value, c.dimensionality.ensures) (long_parts _ _ _ _ _ (g.met.G.ChunkGridTraits.chained c.args.grid.now) found.is_box
-    c.requires.long c.in-Some.some (rw c.in-Some.is at found.parts))
+    rw (c.deref.ensures.value, c.dimensionality.ensures) (long_parts _ _ _ _ _ c.in-Some.some (rw c.in-Some.is at c.in_ok-some.ensures.parts))
 
 pub join_keys-requires : goal.join_keys-requires
 join_keys-requires g c =
@@ -69,7 +67,7 @@ returns-clause-ends g c =
     let of_keys =
     subst (λ ps. AreTexts (IsKeyOf ps) (length ps) (string_bytes c.in_ok-keys.keys) offsets) c.deref-2.ensures.value c.in_ok-keys.ensures.keys in
     let texts = subst (λ text. AreTexts (IsKeyOf parts) (length parts) text offsets) (sym c.as_bytes.ensures.value) of_keys in
-    let is_plan = all_written ds IsKey c.args.elements.now c.args.first c.args.room some buffers keys found refl counted room are_written texts in
+    let is_plan = all_written ds IsKey c.args.elements.now c.args.first c.args.room some found buffers keys refl counted room are_written texts in
     let IsPlan = IsPlanWith ds IsKey c.args.elements.now c.args.first buffers in
     MatchResult-weaker c.write_front.result
     (in_front IsPlan keys wrote.buffer wrote.needed c.write_front.result told.told is_plan told.fits told.written told.short)

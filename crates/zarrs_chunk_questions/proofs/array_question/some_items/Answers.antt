@@ -1,9 +1,6 @@
 use Rattle.zarrs_chunks.specs.seen.Grids.{grid_in}
-use Rattle.zarrs_chunk_questions.proofs.LongPages.{few_lists, first_made, page_made}
+use Rattle.zarrs_chunk_questions.proofs.LongPages.{first_made, page_made}
 use Rattle.zarrs_chunk_questions.proofs.array_question.some_items.Goals as goal
-
-pub new-limits-requires : goal.new-limits-requires
-new-limits-requires c = rw c.lists.ensures (few_lists c.args.walk)
 
 pub returns-in-Some : goal.returns-in-Some
 returns-in-Some c =

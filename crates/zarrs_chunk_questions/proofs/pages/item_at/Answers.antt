@@ -1,27 +1,25 @@
-use Rattle.std.proofs.Common.{◌≡◌, Some, slice_get, subst, sym}
+use Rattle.std.proofs.Common.{◌≡◌, ◌∙◌, ◌<◌, Some, ap, arith, length, slice_get, subst, sym}
 use Rattle.zarrs_chunk_axes.specs.InBounds.{AreBelow}
 use Rattle.zarrs_chunk_base.specs.Dimension.{grid_sizes}
-use Rattle.zarrs_chunk_plan.specs.Rechunking.{all_chunks_box}
-use Rattle.zarrs_chunk_plan.specs.SomeChunks.{AreSomeChunks}
-use Rattle.zarrs_chunk_questions.proofs.Listed.{each_of_some}
-use Rattle.zarrs_chunk_questions.proofs.WalkPages.{all_below_grid, first_has, items_of_one, mapped_first}
+use Rattle.zarrs_chunks.specs.Walks.{chunks_in, chunks_of}
+use Rattle.zarrs_chunk_plan.proofs.Taken.{of_place}
+use Rattle.zarrs_chunk_questions.proofs.WalkPages.{all_below_grid, all_counted, item_of_number}
 use Rattle.zarrs_chunk_questions.proofs.pages.item_at.Goals as goal
+
+pub chunk_at-requires : goal.chunk_at-requires
+chunk_at-requires g c =
+    let ds = g.G.ChunkGridTraits.dimensions c.args.grid.now in
+    let within : c.args.number < length (chunks_of ds) = omega (arith, c.requires.within) in
+    rw (c.requires.all, all_counted ds) within
 
 pub item_of-requires : goal.item_of-requires
 item_of-requires g c =
     let ds = g.G.ChunkGridTraits.dimensions c.args.grid.now in
-    let some = c.in_ok-some.some in
-    let are = subst (λ b. AreSomeChunks b c.args.number 1 some) c.requires c.in_ok-some.ensures in
-    let each = each_of_some (all_chunks_box ds) c.args.number some (AreBelow (grid_sizes ds)) 1 are (all_below_grid ds) in
-    let first : slice_get some.chunks.items 0 ≡ Some c.in-Some.chunk.now = sym (rw c.deref.ensures.value at c.in-Some.ensures.value) in
-    subst (AreBelow (grid_sizes ds)) (sym c.as_slice.ensures)
-    (first_has (λ chunk. AreBelow (grid_sizes ds) chunk.items) some.chunks.items c.in-Some.chunk.now first each)
+    let at = rw c.requires.all at c.in_ok-chunk.ensures in
+    subst (AreBelow (grid_sizes ds)) (sym c.as_slice.ensures) (of_place (AreBelow (grid_sizes ds)) _ c.args.number _ (all_below_grid ds) at)
 
-pub returns-in-Some : goal.returns-in-Some
-returns-in-Some g c =
+pub returns : goal.returns
+returns g c =
     let ds = g.G.ChunkGridTraits.dimensions c.args.grid.now in
-    let some = c.in_ok-some.some in
-    let are = subst (λ b. AreSomeChunks b c.args.number 1 some) c.requires c.in_ok-some.ensures in
-    let first : slice_get some.chunks.items 0 ≡ Some c.in-Some.chunk.now = sym (rw c.deref.ensures.value at c.in-Some.ensures.value) in
-    items_of_one c.args.walk ds c.args.number some are c.in-Some.chunk.now.items c.item_of.result
-    (mapped_first (λ chunk. chunk.items) some.chunks.items c.in-Some.chunk.now first) (rw c.as_slice.ensures at c.item_of.ensures)
+    let at = rw (c.requires.all, all_counted ds) at c.in_ok-chunk.ensures in
+    item_of_number c.args.walk ds c.args.number c.in_ok-chunk.chunk.items c.requires.within at c.item_of.result (rw c.as_slice.ensures at c.item_of.ensures)

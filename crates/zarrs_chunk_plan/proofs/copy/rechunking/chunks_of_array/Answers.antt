@@ -1,5 +1,5 @@
-use Rattle.zarrs_chunk_plan.proofs.Common.{subst}
-use Rattle.zarrs_chunks.specs.Subsets.{AnswersEmptyCover}
+use Rattle.zarrs_chunk_plan.proofs.Common.{inl, subst}
+use Rattle.zarrs_chunks.specs.Subsets.{AnswersCover, AnswersEmptyCover}
 use Rattle.zarrs_chunk_plan.proofs.BoxCover.{cover_many, cover_names, cover_start, cover_uses, some_dimension}
 use Rattle.zarrs_chunk_plan.proofs.copy.rechunking.chunks_of_array.Goals as goal
 
@@ -33,3 +33,9 @@ returns-clause-empty g c = λ empty.
     let ds = g.G.ChunkGridTraits.dimensions c.args.grid.now in
     let cover = c.chunks_in_array_subset-cover in
     subst (AnswersEmptyCover ds) c.in_ok-expect_answer.ensures (cover.ensures.empty empty (some_dimension ds (rw c.requires at empty)))
+
+pub returns-clause-some : goal.returns-clause-some
+returns-clause-some g c = λ some.
+    let ds = g.G.ChunkGridTraits.dimensions c.args.grid.now in
+    let cover = c.chunks_in_array_subset-cover in
+    (subst (AnswersCover ds c.args.array.now) c.in_ok-expect_answer.ensures (cover.ensures.answers (inl some))).1.some

@@ -5,10 +5,10 @@ use Rattle.zarrs_chunk_plan.proofs.resize.chunk_changes.Changes.change_of.Goals 
 pub returns-clause-change : goal.returns-clause-change
 returns-clause-change g c = λ can.
     let chunk = c.args.chunk.items in
-    let held = (rw (c.as_slice-numbers.ensures, c.deref.ensures.value) at c.in_ok-before.ensures) can.array_before (can.changed.used_before chunk) in
-    let holds = (rw (c.as_slice-numbers.ensures, c.deref-2.ensures.value) at c.in_ok-after.ensures) can.array_after (can.changed.used_after chunk) in
+    let held = (rw (c.as_slice-numbers.ensures, c.deref.ensures.value) at c.in_ok-before.ensures) can.array_before (can.changed.before_it.those chunk) in
+    let holds = (rw (c.as_slice-numbers.ensures, c.deref-2.ensures.value) at c.in_ok-after.ensures) can.array_after (can.changed.after_it.those chunk) in
     let below = rw (c.as_slice-numbers.ensures, c.deref-3.ensures.value) at c.are_below-kept.ensures in
-    let kept = can.changed.kept chunk in
+    let kept = can.changed.kept.those chunk in
     record {
       numbers = refl;
       key = rw c.as_slice-numbers.ensures at c.in_ok-key.ensures;
