@@ -13,6 +13,7 @@ pub mod KeySteps
 pub mod LeftMembers
 pub mod Numbered
 pub mod Pieces
+pub mod ReadsLast
 pub mod RunOutcomes
 pub mod Steps
 pub mod StoredLines

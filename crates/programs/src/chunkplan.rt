@@ -20,7 +20,7 @@
 //! | `missing` | what is left of a plan beside keys |
 //! | `product` | products of numbers, in decimal digits |
 //! | `run_fault` | why a run stops |
-ghost use Rattle.std.specs.Prelude.{◌≡◌, ◌≤◌, ◌⊎◌, ℕ, false, IfOk, IfSome, List, MatchResult, Err, OnOk, Some};
+ghost use Rattle.std.specs.Prelude.{◌≡◌, ◌≤◌, ◌⊎◌, [], ℕ, false, IfOk, IfSome, List, MatchResult, Err, OnOk, Some};
 ghost use Rattle.std.specs.Io.KnownBytes.{Keeps};
 ghost use Rattle.streams.specs.Watched.{has_failed, watched};
 ghost use Rattle.documents.specs.Reading.{IsReadOr};
@@ -29,6 +29,7 @@ ghost use Rattle.programs.specs.chunkplan.Keys.{HasKeysBehind, first_line};
 ghost use Rattle.programs.specs.chunkplan.Planned.{IsPlanOf, IsWholeFault, text_of_line, whole_in};
 ghost use Rattle.streams.specs.seen.Lines.{left};
 ghost use Rattle.programs.specs.chunkplan.Run.{RunEndsWith, RunLeaves};
+ghost use Rattle.programs.specs.chunkplan.seen.Reads.{ReadFailsAfter};
 ghost use Rattle.programs.specs.chunkplan.seen.Steps.{InputStepLeaves, Leaves, ReadLeaves};
 ghost use Rattle.programs.specs.chunkplan.RunFault.{is_not_json};
 ghost use Rattle.programs.specs.declared.chunkplan.run_fault.RunFault.TheVariants.{Memory};
@@ -142,10 +143,12 @@ fn answer_beside_keys<R: Read, W: Write>(
     sink: &mut Sink<W>,
 ) -> Result<(), RunFault>
     requires { HasKeysBehind line.items }
-    ensures { (bytes : List ℕ) → left lines.old (R.remaining (watched reader.old)) ≡ Some bytes
+    ensures leaves { (bytes : List ℕ)
+        → left lines.old (R.remaining (watched reader.old)) ≡ Some bytes
         → ReadLeaves (text_of_line line.items bytes) result
         (has_failed reader.old) (has_failed reader.new) (R.remaining (watched reader.new))
         (written W.contents sink.old) (written W.contents sink.new) }
+    ensures keys_last { ReadFailsAfter (text_of_line line.items []) result }
 {
     let document = parse(alloc, &line)?;
     drop(line);

@@ -1,8 +1,9 @@
 //! The words of a program's command line.
-ghost use Rattle.std.specs.Prelude.{◌≡◌, ◌++◌, ◌≤◌, IfErr, IfSome, OnOk, Some, codes, true};
+ghost use Rattle.std.specs.Prelude.{◌≡◌, ◌++◌, ◌≤◌, IfErr, IfSome, OnErr, OnOk, Some, codes, true};
 ghost use Rattle.std.specs.Io.KnownBytes.{Keeps};
+ghost use Rattle.std.specs.Result.{result_map_both};
 ghost use Rattle.streams.specs.Watched.{has_failed, watched};
-ghost use Rattle.programs.specs.Words.{AnswersWords};
+ghost use Rattle.programs.specs.Words.{AnswersWords, HasBegunText, asked_by};
 ghost use Rattle.programs.specs.declared.words.WordsFault.TheVariants.{Output};
 
 use std::env::{Env, FillError};
@@ -48,21 +49,26 @@ impl From<StreamFault> for WordsFault {
     }
 }
 
-/// What the words behind the program's name ask for.
+/// Returns what the words after the program's name ask for.
 pub fn read_words<R: Env>(rt: &R) -> Asked {
     let mut word = [0; LONGEST];
-    let length = match rt.arg(1, &mut word) {
-        Ok(length) => length,
-        Err(FillError::NotPresent) => return Asked::Run,
-        Err(FillError::TooLong) => return Asked::Unknown,
+    let first = match rt.arg(1, &mut word) {
+        Ok(length) => Ok(&word[..length]),
+        Err(why) => Err(why),
     };
-    let mut other = [0; LONGEST];
-    let Err(FillError::NotPresent) = rt.arg(2, &mut other) else {
-        return Asked::Unknown;
-    };
-    match &word[..length] {
-        b"--help" => Asked::Help,
-        b"--version" => Asked::Version,
+    let second = rt.arg(2, &mut [0; LONGEST]);
+    asked_by(first, matches!(second, Err(FillError::NotPresent)))
+}
+
+/// Returns what words ask for, by the first, or by why it wasn't read, and by whether it is alone.
+fn asked_by(first: Result<&[u8], FillError>, alone: bool) -> Asked
+    ensures { result
+        ≡ asked_by (result_map_both (λ word. word.now) (λ why. why) first.entry) alone }
+{
+    match first {
+        Err(FillError::NotPresent) => Asked::Run,
+        Ok(word) if alone && word == b"--help".as_slice() => Asked::Help,
+        Ok(word) if alone && word == b"--version".as_slice() => Asked::Version,
         _ => Asked::Unknown,
     }
 }
@@ -94,10 +100,12 @@ pub fn answer_words<W: Write, E: Write>(
 /// Writes a text and a line feed, and flushes.
 ///
 /// # Errors
-/// A write or the flush failed.
+/// A write or the flush failed. A beginning of the text and its line feed may have been written.
 fn write_line<W: Write>(writer: &mut Watched<W>, text: &str) -> Result<(), WordsFault>
     ensures written { OnOk result (IfSome (W.contents (watched writer.old)) (λ held.
         W.contents (watched writer.new) ≡ Some (held ++ (text.now ++ codes "\n")))) }
+    ensures begun { OnErr result (IfSome (W.contents (watched writer.old)) (λ held.
+        HasBegunText (text.now ++ codes "\n") held (W.contents (watched writer.new)))) }
     ensures failed { IfErr result (λ _. has_failed writer.new ≡ true) }
 {
     write_all(writer, text.as_bytes())?;

@@ -4,4 +4,5 @@ pub mod Digits
 pub mod Missing
 pub mod Opened
 pub mod Pieces
+pub mod Reads
 pub mod Steps

@@ -1,9 +1,10 @@
 //! What a plan still has to write where a store has some of it.
-ghost use Rattle.programs.specs.chunkplan.Common.{◌≡◌, ℕ, List, Some, IsBox, all_targets, region_of, target_of, targets_to_come, has_failed, watched};
+ghost use Rattle.programs.specs.chunkplan.Common.{◌≡◌, [], ℕ, List, Some, IsBox, all_targets, region_of, target_of, targets_to_come, has_failed, watched};
 ghost use Rattle.programs.specs.chunkplan.Common.{left, written};
 ghost use Rattle.programs.specs.chunkplan.Document.{AsksForLinesOfCopy, HasGroups, copying_of, document_of};
 ghost use Rattle.programs.specs.chunkplan.Planned.{copy_beside, missing_text, target_shape, text_beside};
 ghost use Rattle.programs.specs.chunkplan.seen.Steps.{ReadLeaves};
+ghost use Rattle.programs.specs.chunkplan.seen.Reads.{ReadFailsAfter};
 ghost use Rattle.programs.specs.chunkplan.seen.Opened.{CanGiveCopies, OfGroups, array_in, sizes_of};
 
 use crate::chunkplan::RunFault;
@@ -32,10 +33,12 @@ pub(crate) fn write_beside_keys<R: Read, W: Write>(
     sink: &mut Sink<W>,
 ) -> Result<(), RunFault>
     requires { AsksForLinesOfCopy (document_of document) }
-    ensures { (bytes : List ℕ) → left lines.old (R.remaining (watched reader.old)) ≡ Some bytes
+    ensures leaves { (bytes : List ℕ)
+        → left lines.old (R.remaining (watched reader.old)) ≡ Some bytes
         → ReadLeaves (text_beside (document_of document) bytes) result
         (has_failed reader.old) (has_failed reader.new) (R.remaining (watched reader.new))
         (written W.contents sink.old) (written W.contents sink.new) }
+    ensures keys_last { ReadFailsAfter (text_beside (document_of document) []) result }
 {
     let Document {
         shape,
@@ -69,11 +72,14 @@ fn write_copy<R: Read, W: Write>(
 ) -> Result<(), RunFault>
     requires sizes { sizes_of target.now ≡ target_shape (copying_of copying) (sizes_of array.now) }
     requires groups { HasGroups (copying_of copying) }
-    ensures { (bytes : List ℕ) → left lines.old (R.remaining (watched reader.old)) ≡ Some bytes
+    ensures leaves { (bytes : List ℕ)
+        → left lines.old (R.remaining (watched reader.old)) ≡ Some bytes
         → ReadLeaves (copy_beside (copying_of copying) share.now bytes (array_in array.now)
         (array_in target.now)) result
         (has_failed reader.old) (has_failed reader.new) (R.remaining (watched reader.new))
         (written W.contents sink.old) (written W.contents sink.new) }
+    ensures keys_last { ReadFailsAfter (copy_beside (copying_of copying) share.now []
+        (array_in array.now) (array_in target.now)) result }
 {
     match copying {
         Copying::Chunks(chunks) => {
@@ -108,11 +114,14 @@ fn write_missing<R: Read, W: Write>(
     requires is_box { IsBox walk.targets.array_subset }
     requires region { IsBox (region_of walk) }
     requires all { all_targets walk ≡ targets_to_come walk }
-    ensures { (bytes : List ℕ) → left lines.old (R.remaining (watched reader.old)) ≡ Some bytes
+    ensures leaves { (bytes : List ℕ)
+        → left lines.old (R.remaining (watched reader.old)) ≡ Some bytes
         → ReadLeaves (OfGroups walk.entry (missing_text share.now bytes (array_in target.now)))
         result
         (has_failed reader.old) (has_failed reader.new) (R.remaining (watched reader.new))
         (written W.contents sink.old) (written W.contents sink.new) }
+    ensures keys_last { ReadFailsAfter
+        (OfGroups walk.entry (missing_text share.now [] (array_in target.now))) result }
 {
     let Some(mut stored) = walk.none_stored(alloc)? else {
         return Err(RunFault::TooManyForKeys);

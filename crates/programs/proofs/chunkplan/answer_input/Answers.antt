@@ -23,7 +23,7 @@ returns-then-branch g c =
     let rest = g.R.Read.remaining (watched c.answer_beside_keys.new.reader) in
     sent_beside_keys input read rest before after c.answer_beside_keys.result has _ (c.in_ok-ended.ensures.failed ∙ not_read)
     (subst (λ l. ReadLeaves (text_of_line l (behind_first input)) c.answer_beside_keys.result (has_failed c.read_line.new.reader) read rest before after)
-    line (c.answer_beside_keys.ensures (behind_first input) behind)))
+    line (c.answer_beside_keys.ensures.leaves (behind_first input) behind)))
 
 pub returns : goal.returns
 returns g c =

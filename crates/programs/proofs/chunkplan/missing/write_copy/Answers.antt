@@ -1,10 +1,11 @@
 use Rattle.std.proofs.Common.{unwrap_or}
-use Rattle.programs.proofs.chunkplan.Common.{◌≡◌, Ok, Err, option_map, refl, rules, subst, sym, IsInside, array_box, AnyChunk, copy_of, can_stay}
+use Rattle.programs.proofs.chunkplan.Common.{◌≡◌, [], Group, List, Ok, Err, option_map, refl, rules, subst, sym, IsInside, array_box, AnyChunk, copy_of, can_stay}
 use Rattle.programs.proofs.chunkplan.Common.{all_chunks_box, copying_of, of_region, Copies}
 use Rattle.programs.specs.chunkplan.Planned.{IsChunksFault, begins_at, groups_of, missing_text, rechunking_of, region_of}
-use Rattle.programs.specs.chunkplan.seen.Opened.{array_in, dimensions_in, dimensions_of, key_in}
+use Rattle.programs.specs.chunkplan.seen.Opened.{CopiesToCome, array_in, dimensions_in, dimensions_of, key_in}
 use Rattle.programs.proofs.chunkplan.CountedPlans.{chunks_fault}
 use Rattle.programs.proofs.chunkplan.KeySteps.{read_first}
+use Rattle.programs.proofs.chunkplan.ReadsLast.{fails_of_copy}
 use Rattle.programs.proofs.chunkplan.RunOutcomes.{groups_still}
 use Rattle.programs.proofs.chunkplan.Steps.{refused_or}
 use Rattle.programs.proofs.chunkplan.StoredLines.{of_copy}
@@ -13,7 +14,7 @@ use Rattle.programs.proofs.chunkplan.missing.write_copy.Goals as goal
 -- ---- a rechunking
 
 pub returns-in-Chunks : goal.returns-in-Chunks
-returns-in-Chunks g c = λ bytes is.
+returns-in-Chunks g c =
     let array = c.args.array.now in
     let to = c.args.target.now in
     let chunks = c.in_ok-chunks-in-Chunks.chunks in
@@ -21,18 +22,25 @@ returns-in-Chunks g c = λ bytes is.
     let said = c.in_ok-walk-in-Chunks.ensures in
     let (targets, is_box, are, left) = said.targets in
     let all = unwrap_or c.in-Chunks.chunks (all_chunks_box (dimensions_of to)) in
-    rw c.in-Chunks.is
-    (of_copy walk (rechunking_of (array_in array) all (array_in to)) (missing_text c.args.share.now bytes (array_in to))
-    (λ groups moves. subst (λ b. rechunking_of (array_in array) b (array_in to) (Ok groups)) c.in_ok-chunks-in-Chunks.ensures (
+    let planned : (groups : List Group) → CopiesToCome walk groups → rechunking_of (array_in array) all (array_in to) (Ok groups) = λ groups moves.
+    subst (λ b. rechunking_of (array_in array) b (array_in to) (Ok groups)) c.in_ok-chunks-in-Chunks.ensures (
       copy_of dimensions_in key_in dimensions_in key_in array to (array_box (dimensions_of to)) (array_box (dimensions_of to)).start
           (IsInside chunks) targets walk groups (can_stay (dimensions_of array) (dimensions_of to) said.one_array) said.about said.first is_box are left
           moves,
       said.lengths,
-    ))
-    _ _ _ _ _ _ (c.write_missing.ensures bytes is))
+    )
+    in
+    rw c.in-Chunks.is (record {
+      leaves = λ bytes is.
+          of_copy walk (rechunking_of (array_in array) all (array_in to)) (missing_text c.args.share.now bytes (array_in to)) planned _ _ _ _ _ _
+          (c.write_missing.ensures.leaves bytes is);
+      keys_last =
+          fails_of_copy walk (rechunking_of (array_in array) all (array_in to)) (missing_text c.args.share.now [] (array_in to)) planned
+          c.write_missing.result c.write_missing.ensures.keys_last;
+    })
 
-pub returns-in_err-walk-in-Chunks : goal.returns-in_err-walk-in-Chunks
-returns-in_err-walk-in-Chunks g c = λ bytes is.
+pub returns-in_err-walk-in-Chunks-clause-leaves : goal.returns-in_err-walk-in-Chunks-clause-leaves
+returns-in_err-walk-in-Chunks-clause-leaves g c = λ bytes is.
     let to = c.args.target.now in
     let chunks = c.in_ok-chunks-in-Chunks.chunks in
     let sizes = rw c.in-Chunks.is at c.requires.sizes in
@@ -46,7 +54,7 @@ returns-in_err-walk-in-Chunks g c = λ bytes is.
 -- ---- a region
 
 pub returns-in-Region : goal.returns-in-Region
-returns-in-Region g c = λ bytes is.
+returns-in-Region g c =
     let array = c.args.array.now in
     let to = c.args.target.now in
     let region = c.in-Region.region in
@@ -54,16 +62,24 @@ returns-in-Region g c = λ bytes is.
     let (targets, is_box, are, left) = said.targets in
     let first = c.deref.result.now in
     let begins : first ≡ begins_at region (option_map (λ v. v.items) c.in-Region.at) = search rules in
-    rw c.in-Region.is
-    (of_copy c.in_ok-walk-in-Region.walk
-    (region_of (array_in array) region (begins_at region (option_map (λ v. v.items) c.in-Region.at)) (array_in to)) (missing_text c.args.share.now bytes (array_in to))
-    (λ groups moves. subst (λ at. region_of (array_in array) region at (array_in to) (Ok groups)) begins
-    (copy_of dimensions_in key_in dimensions_in key_in array to region first AnyChunk targets c.in_ok-walk-in-Region.walk groups said.lies said.about
-    said.first is_box are left moves))
-    _ _ _ _ _ _ (c.write_missing-in-Region.ensures bytes is))
+    let at = begins_at region (option_map (λ v. v.items) c.in-Region.at) in
+    let walk = c.in_ok-walk-in-Region.walk in
+    let planned : (groups : List Group) → CopiesToCome walk groups → region_of (array_in array) region at (array_in to) (Ok groups) = λ groups moves.
+    subst (λ at. region_of (array_in array) region at (array_in to) (Ok groups)) begins
+    (copy_of dimensions_in key_in dimensions_in key_in array to region first AnyChunk targets walk groups said.lies said.about
+    said.first is_box are left moves)
+    in
+    rw c.in-Region.is (record {
+      leaves = λ bytes is.
+          of_copy walk (region_of (array_in array) region at (array_in to)) (missing_text c.args.share.now bytes (array_in to)) planned _ _ _ _ _ _
+          (c.write_missing-in-Region.ensures.leaves bytes is);
+      keys_last =
+          fails_of_copy walk (region_of (array_in array) region at (array_in to)) (missing_text c.args.share.now [] (array_in to)) planned
+          c.write_missing-in-Region.result c.write_missing-in-Region.ensures.keys_last;
+    })
 
-pub returns-in_err-walk-in-Region : goal.returns-in_err-walk-in-Region
-returns-in_err-walk-in-Region g c = λ bytes is.
+pub returns-in_err-walk-in-Region-clause-leaves : goal.returns-in_err-walk-in-Region-clause-leaves
+returns-in_err-walk-in-Region-clause-leaves g c = λ bytes is.
     let array = array_in c.args.array.now in
     let to = array_in c.args.target.now in
     let region = c.in-Region.region in

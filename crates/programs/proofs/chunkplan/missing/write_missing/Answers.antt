@@ -1,8 +1,9 @@
 use Rattle.programs.proofs.chunkplan.Common.{◌≡◌, ◌∙◌, ◌<◌, ◌≤◌, ◌^◌, ◌++◌, ℕ, List, [], Some, Result, Ok, Err, ap, arith, length, refl, subst, sym}
 use Rattle.programs.proofs.chunkplan.Common.{AllZip-long, IsBox, Dimension, ChunkKeyEncoding, Group, AreMovedInto, Share, StoredChunks, all_targets}
 use Rattle.programs.proofs.chunkplan.Common.{region_of, targets_to_come, Knows, first_move, ChunkGrid, IsMissingText, Target, RunFault, Output}
-use Rattle.programs.proofs.chunkplan.Common.{written}
+use Rattle.programs.proofs.chunkplan.Common.{no_line, target_of, written}
 use Rattle.zarrs_chunk_plan.specs.declared.copy.chunk_copies.Copies.{Copies}
+use Rattle.zarrs_chunk_plan.specs.declared.stored_array.StoredArray.{StoredArray}
 use Rattle.programs.specs.chunkplan.Planned.{missing_text}
 use Rattle.programs.specs.chunkplan.seen.Missing.{HaveNoted, share_unless_stored}
 use Rattle.programs.specs.chunkplan.seen.Opened.{CanGiveCopies, CopiesToCome, OfGroups, array_in, dimensions_in, dimensions_of, key_in, key_of}
@@ -10,6 +11,7 @@ use Rattle.programs.proofs.chunkplan.Begun.{copies_ahead}
 use Rattle.programs.proofs.chunkplan.Behind.{Begins, Behind, ends_behind, stops_whole}
 use Rattle.programs.proofs.chunkplan.Exits.{handed}
 use Rattle.programs.proofs.chunkplan.KeySteps.{after_reading, noting_stops}
+use Rattle.programs.proofs.chunkplan.ReadsLast.{may_read}
 use Rattle.programs.proofs.chunkplan.Steps.{text_follows}
 use Rattle.programs.proofs.chunkplan.StoredLines.{none_noted, still_missing}
 use Rattle.programs.proofs.chunkplan.missing.write_missing.Goals as goal
@@ -47,16 +49,30 @@ module _ (walk : Copies ChunkGrid ChunkKeyEncoding ChunkGrid ChunkKeyEncoding) (
   whole : (text : List ℕ) → Behind AreLines (λ text. text ≡ foreign) text → IsWhole text
   whole text (one, other, (groups, moves, is), same, joined) = (groups, moves, rw (joined, is, same) (both groups moves))
 
-pub returns-in_default : goal.returns-in_default
-returns-in_default g c = λ bytes is.
+-- without any key there is a text
+module _ (walk : Copies ChunkGrid ChunkKeyEncoding ChunkGrid ChunkKeyEncoding) (is_box : IsBox walk.targets.array_subset)
+    (is_region : IsBox (region_of walk)) (can : CanGiveCopies walk) (all : all_targets walk ≡ targets_to_come walk)
+    (few : length (all_targets walk) < 2 ^ 29) (to : StoredArray ChunkGrid ChunkKeyEncoding) (is_target : target_of walk ≡ to) (stored : StoredChunks)
+    (knows : Knows (dimensions_of (target_of walk)) (key_of (target_of walk)) (all_targets walk) [] stored) (share : Share) where
+  without_keys : (text : List ℕ) × OfGroups walk (missing_text share [] (array_in to)) (Ok text)
+  without_keys =
+      let (groups, moves) = some_groups walk is_box is_region can in
+      let known = subst (λ to. Knows (dimensions_of to) (key_of to) (all_targets walk) [] stored) is_target knows in
+      let noted = none_noted (dimensions_of to) (key_of to) (all_targets walk) stored [] known refl in (
+        share_unless_stored Target (Some stored) share groups ++ [],
+        (groups, moves, ([], no_line, both walk all few (dimensions_of to) (key_of to) [] stored [] noted share groups moves)),
+      )
+
+pub returns-in_default-clause-leaves : goal.returns-in_default-clause-leaves
+returns-in_default-clause-leaves g c = λ bytes is.
     let walk = c.args.walk in
     let (groups, moves) = some_groups walk c.requires.is_box c.requires.region c.requires.can in
     let long = ap length c.requires.all ∙ sym (AllZip-long _ (targets_to_come walk) groups moves) in
     let many : 2 ^ 29 ≤ length (all_targets walk) = rw c.in_default.is at c.in_ok-stored.ensures.none in
     (refl, (refl, refl, (groups, moves, omega (arith, long, many))))
 
-pub returns-in_err-note_keys : goal.returns-in_err-note_keys
-returns-in_err-note_keys g c = λ bytes is.
+pub returns-in_err-note_keys-clause-leaves : goal.returns-in_err-note_keys-clause-leaves
+returns-in_err-note_keys-clause-leaves g c = λ bytes is.
     let walk = c.args.walk in
     let (groups, moves) = some_groups walk c.requires.is_box c.requires.region c.requires.can in
     let long = ap length c.requires.all ∙ sym (AllZip-long _ (targets_to_come walk) groups moves) in
@@ -65,8 +81,8 @@ returns-in_err-note_keys g c = λ bytes is.
     (noting_stops _ (λ fault. OfGroups walk (missing_text c.args.share.now bytes (array_in c.args.target.now)) (Err fault)) _ _ _ bytes _ _ (rw is at c.in_err-note_keys.ensures.refused)
     (λ number first. (groups, moves, (omega (arith, long, few), first))))
 
-pub returns-in_err-write_share : goal.returns-in_err-write_share
-returns-in_err-write_share g c = λ bytes is.
+pub returns-in_err-write_share-clause-leaves : goal.returns-in_err-write_share-clause-leaves
+returns-in_err-write_share-clause-leaves g c = λ bytes is.
     let walk = c.args.walk in
     let target = dimensions_of c.args.target.now in
     let IsKeyOf = key_of c.args.target.now in
@@ -91,8 +107,8 @@ returns-in_err-write_share g c = λ bytes is.
     (text_follows Whole (λ text. Text (Ok text)) (λ fault. Text (Err fault)) (λ text (groups, moves, missing). (groups, moves, (keys, are, missing))) before after (Err _)
     (stops_whole _ _ begins before after _ c.in_err-write_share.ensures)))
 
-pub returns : goal.returns
-returns g c = λ bytes is.
+pub returns-clause-leaves : goal.returns-clause-leaves
+returns-clause-leaves g c = λ bytes is.
     let walk = c.args.walk in
     let target = dimensions_of c.args.target.now in
     let IsKeyOf = key_of c.args.target.now in
@@ -120,3 +136,27 @@ returns g c = λ bytes is.
     (text_follows Whole (λ text. Text (Ok text)) (λ fault. Text (Err fault)) (λ text (groups, moves, missing). (groups, moves, (keys, are, missing))) before after c.send_text.result
     (ends_behind _ (λ text. text ≡ c.note_keys.new.foreign.items) _ before between after c.in_ok-write_share.ensures begins ends c.send_text.result
     c.send_text.ensures))
+
+pub returns-in_err-note_keys-clause-keys_last : goal.returns-in_err-note_keys-clause-keys_last
+returns-in_err-note_keys-clause-keys_last g c =
+    let walk = c.args.walk in
+    may_read (OfGroups walk (missing_text c.args.share.now [] (array_in c.args.target.now)))
+    (without_keys walk c.requires.is_box c.requires.region c.requires.can c.requires.all (rw c.in-Some.is at c.in_ok-stored.ensures.few)
+    c.args.target.now c.requires.target c.in-Some.stored (rw c.in-Some.is at c.in_ok-stored.ensures.none) c.args.share.now)
+    c.from_residual-in_err-note_keys.result
+
+pub returns-in_err-write_share-clause-keys_last : goal.returns-in_err-write_share-clause-keys_last
+returns-in_err-write_share-clause-keys_last g c =
+    let walk = c.args.walk in
+    may_read (OfGroups walk (missing_text c.args.share.now [] (array_in c.args.target.now)))
+    (without_keys walk c.requires.is_box c.requires.region c.requires.can c.requires.all (rw c.in-Some.is at c.in_ok-stored.ensures.few)
+    c.args.target.now c.requires.target c.in-Some.stored (rw c.in-Some.is at c.in_ok-stored.ensures.none) c.args.share.now)
+    c.from_residual-in_err-write_share.result
+
+pub returns-clause-keys_last : goal.returns-clause-keys_last
+returns-clause-keys_last g c =
+    let walk = c.args.walk in
+    may_read (OfGroups walk (missing_text c.args.share.now [] (array_in c.args.target.now)))
+    (without_keys walk c.requires.is_box c.requires.region c.requires.can c.requires.all (rw c.in-Some.is at c.in_ok-stored.ensures.few)
+    c.args.target.now c.requires.target c.in-Some.stored (rw c.in-Some.is at c.in_ok-stored.ensures.none) c.args.share.now)
+    c.send_text.result
