@@ -1,4 +1,4 @@
--- What many of the definitions and the contracts import, in one place.
+-- What many of the definitions and the contracts import, in one place. Operators each file takes from std itself.
 pub use Rattle.documents.specs.Document.{in_form_or, optional_in}
 pub use Rattle.documents.specs.Reading.{IsRead, IsReadOr, gives, made_of, optional, then, told}
 pub use Rattle.documents.specs.Stored.{Stored, array_of, stored_of}
@@ -26,9 +26,8 @@ pub use Rattle.serde_json.specs.View.{view}
 pub use Rattle.std.specs.Int.NonZero.{non_zero_u64_get}
 pub use Rattle.std.specs.List.{AllByRecursion, slice_get}
 pub use Rattle.std.specs.Prelude.{Bool, Contains, Err, IfErr, IfOk, IfSome, IsFalse, IsOkAnd, IsSome, IsTrue, List, MatchOption, MatchResult, None}
-pub use Rattle.std.specs.Prelude.{Ok, OnOk, Option, Result, Some, Vec, [], bytes_eq, codes, cond, decimal, false, if◌then◌else◌, is_some, length, map}
-pub use Rattle.std.specs.Prelude.{nat_le, nat_lt, not, option_and_then, option_map, pred, replicate, string_bytes, suc, take, true, unwrap_or, zero}
-pub use Rattle.std.specs.Prelude.{ℕ, ◌&&◌, ◌*◌, ◌++◌, ◌+◌, ◌<◌, ◌==◌, ◌^◌, ◌↔◌, ◌∷◌, ◌≡◌, ◌≢◌, ◌≤◌, ◌⊎◌}
+pub use Rattle.std.specs.Prelude.{Ok, OnOk, Option, Result, Some, Vec, [], bytes_eq, codes, cond, decimal, false, is_some, length, map}
+pub use Rattle.std.specs.Prelude.{nat_le, nat_lt, not, option_and_then, option_map, pred, replicate, string_bytes, suc, take, true, unwrap_or, zero, ℕ}
 pub use Rattle.std.specs.Str.{IsUtf8}
 pub use Rattle.std.specs.declared.alloc.Global.{Global}
 pub use Rattle.streams.specs.Watched.{has_failed, watched}

@@ -1,7 +1,8 @@
 -- The counts of a plan: an object, and the line of it; and the line of the counts of a rechunking in one stage, and of its two stages.
 -- Source: RFC 8259; the members, in the order of their names, are this program's own.
-use Rattle.programs.specs.chunkplan.Common.{◌≡◌, ℕ, Bool, true, false, List, ◌++◌, Option, Some, None, Vec, codes, Global, print, json_tokens}
-use Rattle.programs.specs.chunkplan.Common.{IsNumeral, product, Counts, StagesCounts}
+use Rattle.std.specs.Prelude.{◌≡◌, ◌++◌}
+use Rattle.programs.specs.chunkplan.Common.{ℕ, Bool, true, false, List, Option, Some, None, Vec, codes, Global, print, json_tokens, IsNumeral}
+use Rattle.programs.specs.chunkplan.Common.{product, Counts, StagesCounts}
 use Rattle.programs.specs.chunkplan.Line.{numbers_json}
 
 -- a count as text: the numeral of the product of its factors, and `null` where it isn't counted

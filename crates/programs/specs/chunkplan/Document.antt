@@ -3,10 +3,11 @@
 -- `order`, or `max_elements` and `stage`, if they are wanted; for the copy of a region, `target` and `subset`, and `at` if it is wanted. `share` or
 -- `counts` says what is wanted of the plan, if not all lines; beside a target, `keys` that keys of its store stand behind the document. For a resize
 -- it has `resize`, and `keep` if it is wanted, and none of these. What else an array's `zarr.json` has may stand in it and in the target.
-use Rattle.programs.specs.chunkplan.Common.{◌≡◌, ◌⊎◌, ◌==◌, ◌^◌, ◌≤◌, ℕ, Bool, true, false, cond, IsSome, IsTrue, List, Option, Some, None, Result}
-use Rattle.programs.specs.chunkplan.Common.{Ok, Err, bytes_eq, codes, nat_lt, option_and_then, option_map, Data, as_bool, as_object, as_str, get, Box}
-use Rattle.programs.specs.chunkplan.Common.{IsBox, edge_of, list_of, pair_of, size_of, MemoryOrder, Share, order_in, gives, optional, then, told}
-use Rattle.programs.specs.chunkplan.Common.{Stored, stored_of, DocumentFault, UnknownMember, Order, Source, Target, RunFault, Stage, First, Second}
+use Rattle.std.specs.Prelude.{◌≡◌, ◌⊎◌, ◌==◌, ◌^◌, ◌≤◌}
+use Rattle.programs.specs.chunkplan.Common.{ℕ, Bool, true, false, cond, IsSome, IsTrue, List, Option, Some, None, Result, Ok, Err, bytes_eq, codes}
+use Rattle.programs.specs.chunkplan.Common.{nat_lt, option_and_then, option_map, Data, as_bool, as_object, as_str, get, Box, IsBox, edge_of, list_of}
+use Rattle.programs.specs.chunkplan.Common.{pair_of, size_of, MemoryOrder, Share, order_in, gives, optional, then, told, Stored, stored_of}
+use Rattle.programs.specs.chunkplan.Common.{DocumentFault, UnknownMember, Order, Source, Target, RunFault, Stage, First, Second}
 use Rattle.std.specs.Int.NonZero.{non_zero_u64_get}
 use Rattle.zarrs_chunk_base.specs.ArraySubsetError.{IsBoxFault}
 use Rattle.zarrs_chunk_base.specs.First.{IsFirst}

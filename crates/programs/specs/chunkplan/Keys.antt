@@ -1,9 +1,9 @@
 -- Keys behind a document, a line each, and what they leave of a plan.
 -- Source: the form of the input and of the lines is this program's own.
-use Rattle.programs.specs.chunkplan.Common.{◌≡◌, ◌≢◌, ◌↔◌, ◌⊎◌, ◌≤◌, ◌<◌, ◌^◌, ◌==◌, ◌&&◌, ◌+◌, ℕ, suc, pred, take, Bool, true, IsTrue, if◌then◌else◌}
-use Rattle.programs.specs.chunkplan.Common.{List, [], ◌∷◌, ◌++◌, Contains, length, codes, Some, Ok, slice_get, IsUtf8, Json, string, object}
-use Rattle.programs.specs.chunkplan.Common.{no_members, member, Data, Dimension, IsJsonOf, EndsInSlash, counted, Group, before_share, share_of, Share}
-use Rattle.programs.specs.chunkplan.Common.{Target, RunFault, KeyNotText, TooManyForKeys}
+use Rattle.std.specs.Prelude.{◌≡◌, ◌≢◌, ◌↔◌, ◌⊎◌, ◌≤◌, ◌<◌, ◌^◌, ◌==◌, ◌&&◌, ◌+◌, if◌then◌else◌, ◌∷◌, ◌++◌}
+use Rattle.programs.specs.chunkplan.Common.{ℕ, suc, pred, take, Bool, true, IsTrue, List, [], Contains, length, codes, Some, Ok, slice_get, IsUtf8}
+use Rattle.programs.specs.chunkplan.Common.{Json, string, object, no_members, member, Data, Dimension, IsJsonOf, EndsInSlash, counted, Group}
+use Rattle.programs.specs.chunkplan.Common.{before_share, share_of, Share, Target, RunFault, KeyNotText, TooManyForKeys}
 use Rattle.std.specs.Io.BufRead.{drop_through, take_through}
 use Rattle.zarrs_chunk_plan.specs.StoredChunks.{IsListed, IsOfArray}
 use Rattle.programs.specs.chunkplan.Document.{flag_in}

@@ -1,8 +1,8 @@
 -- The members that a document may have, and those in which source and target have to agree.
 -- Source: Zarr V3 core, array metadata; `at`, `chunks`, `clip`, `counts`, `item_size`, `keep`, `keys`, `max_elements`, `max_ranges`,
 -- `memory_order`, `order`, `resize`, `share`, `stage`, `subset` and `target` are this program's own.
-use Rattle.programs.specs.chunkplan.Common.{◌≡◌, ◌≢◌, ◌≤◌, ℕ, List, [], ◌∷◌, ◌++◌, Some, codes, false, string_bytes, Data, depth, as_object, get}
-use Rattle.programs.specs.chunkplan.Common.{UnknownMember}
+use Rattle.std.specs.Prelude.{◌≡◌, ◌≢◌, ◌≤◌, ◌∷◌, ◌++◌}
+use Rattle.programs.specs.chunkplan.Common.{ℕ, List, [], Some, codes, false, string_bytes, Data, depth, as_object, get, UnknownMember}
 use Rattle.serde_json.specs.Data.{Members}
 use Rattle.serde_json.specs.Read.{max_depth}
 use Rattle.serde_json.specs.Written.{compact_text, has_float}

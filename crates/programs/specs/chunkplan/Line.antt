@@ -1,9 +1,10 @@
 -- The lines of a plan: compact JSON, an object a line. Characters that break a line for some reader are escaped.
 -- Source: RFC 8259, and JSON Lines; the members are this program's own.
-use Rattle.programs.specs.chunkplan.Common.{ℕ, suc, List, [], ◌∷◌, ◌++◌, length, codes, cond, decimal, nat_le, Option, Some, None, Json, null, number}
-use Rattle.programs.specs.chunkplan.Common.{string, array, object, Items, no_items, item, Members, no_members, member, print, json_tokens, Box}
-use Rattle.programs.specs.chunkplan.Common.{counted, Group, shifted, before_share, share_of, MemoryOrder, Part, ChunkChange, Share, order_text, Order}
-use Rattle.programs.specs.chunkplan.Common.{Source, Target}
+use Rattle.std.specs.Prelude.{◌∷◌, ◌++◌}
+use Rattle.programs.specs.chunkplan.Common.{ℕ, suc, List, [], length, codes, cond, decimal, nat_le, Option, Some, None, Json, null, number, string}
+use Rattle.programs.specs.chunkplan.Common.{array, object, Items, no_items, item, Members, no_members, member, print, json_tokens, Box, counted}
+use Rattle.programs.specs.chunkplan.Common.{Group, shifted, before_share, share_of, MemoryOrder, Part, ChunkChange, Share, order_text, Order, Source}
+use Rattle.programs.specs.chunkplan.Common.{Target}
 use Rattle.json.specs.Json.{boolean}
 use Rattle.zarrs_chunk_plan.specs.Bytes.{begins}
 use Rattle.zarrs_chunk_plan.specs.Strided.{Strided, ranges_of}

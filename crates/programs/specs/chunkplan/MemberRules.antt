@@ -1,6 +1,7 @@
 -- Which members of a document go together.
 -- Source: this program's own.
-use Rattle.programs.specs.chunkplan.Common.{ℕ, Bool, not, ◌&&◌, IsFalse, List, [], ◌∷◌, ◌++◌, codes, is_some, map, AllByRecursion, Data, get}
+use Rattle.std.specs.Prelude.{◌&&◌, ◌∷◌, ◌++◌}
+use Rattle.programs.specs.chunkplan.Common.{ℕ, Bool, not, IsFalse, List, [], codes, is_some, map, AllByRecursion, Data, get}
 use Rattle.programs.specs.declared.chunkplan.member_rules.MemberRule.{MemberRule}
 use Rattle.programs.specs.declared.chunkplan.member_rules.MemberRule.TheVariants.{Excludes, Needs}
 

@@ -1,12 +1,12 @@
 -- What the program writes for a document, or why it writes nothing.
-use Rattle.programs.specs.chunkplan.Common.{◌≡◌, ◌≢◌, ◌↔◌, ◌⊎◌, ℕ, Bool, true, false, IsTrue, List, length, MatchOption, Option, None, Some}
-use Rattle.programs.specs.chunkplan.Common.{Result, Ok, Err, replicate, unwrap_or, Box, IsBox, IsEmptyBox, IsInside, lasts, Dimension, array_sizes}
-use Rattle.programs.specs.chunkplan.Common.{IsKey, default_keys, IsGrid, IsGridFault, grid_kind, regular, AreCopyCounts, AreReadCounts, AreTargets}
-use Rattle.programs.specs.chunkplan.Common.{Group, IsRechunking, all_chunks_box, array_box, AnyChunk, IsRegionCopy, IsRegionFault, moved, FindsShape}
-use Rattle.programs.specs.chunkplan.Common.{HoldAtMost, IsBoundFault, IsLargest, IsStagesFault, RegionError, Counts, Part, ChunkChange, Share}
-use Rattle.programs.specs.chunkplan.Common.{made_of, then, told, Stored, array_of, Order, Source, Target, Stage, First, Second, StagesCounts}
-use Rattle.programs.specs.chunkplan.Common.{RunFault, Copies, KeysOfLongDocument, NoShape, NotInOneStage, NotJson, ResizedGrid, Stages}
-use Rattle.programs.specs.chunkplan.Common.{SubsetDimensionality, Uncovered}
+use Rattle.std.specs.Prelude.{◌≡◌, ◌≢◌, ◌↔◌, ◌⊎◌}
+use Rattle.programs.specs.chunkplan.Common.{ℕ, Bool, true, false, IsTrue, List, length, MatchOption, Option, None, Some, Result, Ok, Err, replicate}
+use Rattle.programs.specs.chunkplan.Common.{unwrap_or, Box, IsBox, IsEmptyBox, IsInside, lasts, Dimension, array_sizes, IsKey, default_keys, IsGrid}
+use Rattle.programs.specs.chunkplan.Common.{IsGridFault, grid_kind, regular, AreCopyCounts, AreReadCounts, AreTargets, Group, IsRechunking}
+use Rattle.programs.specs.chunkplan.Common.{all_chunks_box, array_box, AnyChunk, IsRegionCopy, IsRegionFault, moved, FindsShape, HoldAtMost}
+use Rattle.programs.specs.chunkplan.Common.{IsBoundFault, IsLargest, IsStagesFault, RegionError, Counts, Part, ChunkChange, Share, made_of, then}
+use Rattle.programs.specs.chunkplan.Common.{told, Stored, array_of, Order, Source, Target, Stage, First, Second, StagesCounts, RunFault, Copies}
+use Rattle.programs.specs.chunkplan.Common.{KeysOfLongDocument, NoShape, NotInOneStage, NotJson, ResizedGrid, Stages, SubsetDimensionality, Uncovered}
 use Rattle.zarrs_chunk_base.specs.Grid.{Grid}
 use Rattle.zarrs_chunk_base.specs.Refusal.{TellsLengths}
 use Rattle.zarrs_chunk_base.specs.declared.chunk_key_separator.ChunkKeySeparator.TheVariants.{Slash}

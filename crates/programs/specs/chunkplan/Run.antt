@@ -1,6 +1,6 @@
 -- What a run of the program leaves.
-use Rattle.programs.specs.chunkplan.Common.{◌≡◌, ◌⊎◌, ℕ, true, false, List, [], ◌++◌, Some, Result, Ok, Err, MatchResult, RunFault, Memory, Read}
-use Rattle.programs.specs.chunkplan.Common.{Write}
+use Rattle.std.specs.Prelude.{◌≡◌, ◌⊎◌, ◌++◌}
+use Rattle.programs.specs.chunkplan.Common.{ℕ, true, false, List, [], Some, Result, Ok, Err, MatchResult, RunFault, Memory, Read, Write}
 use Rattle.streams.specs.Streams.{IsReadToEnd, IsWritten, Streams}
 use Rattle.programs.specs.chunkplan.Keys.{HasKeysBehind, first_line}
 use Rattle.programs.specs.chunkplan.Planned.{IsPlanOf}

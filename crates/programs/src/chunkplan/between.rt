@@ -1,6 +1,6 @@
 //! The intermediate array, by which a rechunking goes in two stages.
-ghost use Rattle.programs.specs.chunkplan.Common.{◌≡◌, ◌⊎◌, IfErr, IfOk, MatchOption, None, length, map, non_zero_u64_get, FindsShape, IsStagesFault};
-ghost use Rattle.programs.specs.chunkplan.Common.{Memory};
+ghost use Rattle.std.specs.Prelude.{◌≡◌, ◌⊎◌};
+ghost use Rattle.programs.specs.chunkplan.Common.{IfErr, IfOk, MatchOption, None, length, map, non_zero_u64_get, FindsShape, IsStagesFault, Memory};
 ghost use Rattle.programs.specs.chunkplan.seen.Between.{IsMadeOf, IsOpened, TellsStages};
 ghost use Rattle.programs.specs.chunkplan.seen.Opened.{dimensions_of, sizes_of};
 

@@ -1,6 +1,7 @@
 //! The lines of a plan, sent as they are made.
-ghost use Rattle.programs.specs.chunkplan.Common.{◌≡◌, ◌⊎◌, ℕ, suc, List, length, option_map, AllByRecursion, IsBox, array_sizes, AllFit, counted};
-ghost use Rattle.programs.specs.chunkplan.Common.{Group, IsUsed, all_targets, region_of, written};
+ghost use Rattle.std.specs.Prelude.{◌≡◌, ◌⊎◌};
+ghost use Rattle.programs.specs.chunkplan.Common.{ℕ, suc, List, length, option_map, AllByRecursion, IsBox, array_sizes, AllFit, counted, Group};
+ghost use Rattle.programs.specs.chunkplan.Common.{IsUsed, all_targets, region_of, written};
 ghost use Rattle.zarrs_chunk_parts.specs.declared.part.Part.{Part as PartValue};
 ghost use Rattle.zarrs_chunk_plan.specs.declared.resize.plan.ChunkChange.{ChunkChange as ChangeValue};
 ghost use Rattle.zarrs_chunk_plan.specs.seen.Changes.{AreChangesToCome, CanChange, all_changes, changes_to_come};

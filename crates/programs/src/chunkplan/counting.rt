@@ -1,5 +1,6 @@
 //! The counts of a plan, and the counts of a rechunking and of its two stages, as one line.
-ghost use Rattle.programs.specs.chunkplan.Common.{◌≡◌, ◌++◌, ℕ, IfOk, List, OnOk, print, json_tokens, IsNumeral, product};
+ghost use Rattle.std.specs.Prelude.{◌≡◌, ◌++◌};
+ghost use Rattle.programs.specs.chunkplan.Common.{ℕ, IfOk, List, OnOk, print, json_tokens, IsNumeral, product};
 ghost use Rattle.programs.specs.chunkplan.CountsLine.{AreStagesObjects, IsCount, IsCountsLine, IsCountsObject, IsStagesLine, between_text, flag_text};
 ghost use Rattle.programs.specs.chunkplan.Line.{numbers_json};
 

@@ -1,6 +1,7 @@
 //! The keys behind a document, a line each.
-ghost use Rattle.programs.specs.chunkplan.Common.{◌≡◌, ◌↔◌, ◌⊎◌, ◌++◌, ◌+◌, ◌<◌, ◌≤◌, ◌^◌, ◌∷◌, [], length, ℕ, IfErr, IfOk, IfSome, IsTrue, List};
-ghost use Rattle.programs.specs.chunkplan.Common.{OnOk, Some, IsUtf8, has_failed, watched, KeyNotText, Memory, left};
+ghost use Rattle.std.specs.Prelude.{◌≡◌, ◌↔◌, ◌⊎◌, ◌++◌, ◌+◌, ◌<◌, ◌≤◌, ◌^◌, ◌∷◌};
+ghost use Rattle.programs.specs.chunkplan.Common.{[], length, ℕ, IfErr, IfOk, IfSome, IsTrue, List, OnOk, Some, IsUtf8, has_failed, watched};
+ghost use Rattle.programs.specs.chunkplan.Common.{KeyNotText, Memory, left};
 ghost use Rattle.std.specs.Io.BufRead.{take_through};
 ghost use Rattle.programs.specs.chunkplan.Keys.{AreKeys, HasKeysBehind, IsKeyOfTarget, braces_after, closed_length, closed_lines, unended};
 ghost use Rattle.programs.specs.chunkplan.seen.Missing.{HaveMarked, HaveNoted, IsKeysStop, with_line};

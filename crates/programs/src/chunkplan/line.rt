@@ -1,5 +1,6 @@
 //! The text of a line of a plan.
-ghost use Rattle.programs.specs.chunkplan.Common.{◌≡◌, ◌++◌, [], ◌∷◌, codes, option_map, IfOk, OnOk, print, begin_array, begin_object, boolean, end_array};
+ghost use Rattle.std.specs.Prelude.{◌≡◌, ◌++◌, ◌∷◌};
+ghost use Rattle.programs.specs.chunkplan.Common.{[], codes, option_map, IfOk, OnOk, print, begin_array, begin_object, boolean, end_array};
 ghost use Rattle.programs.specs.chunkplan.Common.{end_object, key, json_tokens, Source, Target};
 ghost use Rattle.json.specs.Token.{null, string};
 ghost use Rattle.programs.specs.chunkplan.Document.{ranges_asked_of};

@@ -1,5 +1,6 @@
 //! Which members of a document go together.
-ghost use Rattle.programs.specs.chunkplan.Common.{◌≡◌, IsFalse, IsTrue, MatchOption, is_some, map, AllByRecursion, get, view, IsRead};
+ghost use Rattle.std.specs.Prelude.{◌≡◌};
+ghost use Rattle.programs.specs.chunkplan.Common.{IsFalse, IsTrue, MatchOption, is_some, map, AllByRecursion, get, view, IsRead};
 ghost use Rattle.zarrs_chunk_base.specs.First.{IsFirst};
 ghost use Rattle.programs.specs.chunkplan.Document.{fits_in};
 ghost use Rattle.programs.specs.chunkplan.MemberRules.{is_broken, rule_of};

@@ -1,5 +1,6 @@
 //! What a plan still has to write where a store has some of it.
-ghost use Rattle.programs.specs.chunkplan.Common.{◌≡◌, [], ℕ, List, Some, IsBox, all_targets, region_of, target_of, targets_to_come, has_failed, watched};
+ghost use Rattle.std.specs.Prelude.{◌≡◌};
+ghost use Rattle.programs.specs.chunkplan.Common.{[], ℕ, List, Some, IsBox, all_targets, region_of, target_of, targets_to_come, has_failed, watched};
 ghost use Rattle.programs.specs.chunkplan.Common.{left, written};
 ghost use Rattle.programs.specs.chunkplan.Document.{AsksForLinesOfCopy, HasGroups, copying_of, document_of};
 ghost use Rattle.programs.specs.chunkplan.Planned.{copy_beside, missing_text, target_shape, text_beside};

@@ -1,6 +1,7 @@
 //! The byte ranges of a part, as a line has them.
-ghost use Rattle.programs.specs.chunkplan.Common.{◌≡◌, ◌∷◌, IfOk, IfSome, OnOk, Some, codes, length, option_map, non_zero_u64_get, array, key};
-ghost use Rattle.programs.specs.chunkplan.Common.{json_tokens, order_text};
+ghost use Rattle.std.specs.Prelude.{◌≡◌, ◌∷◌};
+ghost use Rattle.programs.specs.chunkplan.Common.{IfOk, IfSome, OnOk, Some, codes, length, option_map, non_zero_u64_get, array, key, json_tokens};
+ghost use Rattle.programs.specs.chunkplan.Common.{order_text};
 ghost use Rattle.json.specs.Token.{string};
 ghost use Rattle.zarrs_chunk_plan.specs.Bytes.{HasPast, begins};
 ghost use Rattle.zarrs_chunk_plan.specs.Strided.{form_of, ranges_of};

@@ -1,7 +1,8 @@
 //! The plan that a document asks for.
-ghost use Rattle.programs.specs.chunkplan.Common.{◌≡◌, ◌⊎◌, IfErr, IfOk, List, None, length, option_map, replicate, unwrap_or, IsBox, AllFit};
-ghost use Rattle.programs.specs.chunkplan.Common.{grid_in, Group, all_chunks_box, array_box, AreResized, all_targets, region_of, targets_to_come};
-ghost use Rattle.programs.specs.chunkplan.Common.{IsReadOr, stored_of, Memory, written};
+ghost use Rattle.std.specs.Prelude.{◌≡◌, ◌⊎◌};
+ghost use Rattle.programs.specs.chunkplan.Common.{IfErr, IfOk, List, None, length, option_map, replicate, unwrap_or, IsBox, AllFit, grid_in, Group};
+ghost use Rattle.programs.specs.chunkplan.Common.{all_chunks_box, array_box, AreResized, all_targets, region_of, targets_to_come, IsReadOr};
+ghost use Rattle.programs.specs.chunkplan.Common.{stored_of, Memory, written};
 ghost use Rattle.programs.specs.chunkplan.CountsLine.{IsCountsLine};
 ghost use Rattle.programs.specs.chunkplan.Document.{copying_of, counts_wanted, document_of, lines_wanted, ranges_asked_of, wanted_of};
 ghost use Rattle.programs.specs.chunkplan.Planned.{IsAsked, IsReadFault, IsResizeText, asked_text, read_text, rechunking_text, region_text};

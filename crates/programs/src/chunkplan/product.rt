@@ -1,5 +1,6 @@
 //! Products of numbers, in decimal digits, however large they are.
-ghost use Rattle.programs.specs.chunkplan.Common.{◌≡◌, ◌+◌, ◌*◌, ◌<◌, ℕ, IfOk, OnOk, IsNumeral, product};
+ghost use Rattle.std.specs.Prelude.{◌≡◌, ◌+◌, ◌*◌, ◌<◌};
+ghost use Rattle.programs.specs.chunkplan.Common.{ℕ, IfOk, OnOk, IsNumeral, product};
 ghost use Rattle.programs.specs.chunkplan.seen.Digits.{AreDigits, HasText, value};
 
 use std::alloc::{AllocError, Global};

@@ -1,5 +1,6 @@
 //! Why a run of the program stops.
-ghost use Rattle.programs.specs.chunkplan.Common.{◌≡◌, Copies, Memory};
+ghost use Rattle.std.specs.Prelude.{◌≡◌};
+ghost use Rattle.programs.specs.chunkplan.Common.{Copies, Memory};
 ghost use Rattle.programs.specs.chunkplan.RunFault.{of_create, of_document, of_refusal, of_region, of_stream};
 
 use crate::chunkplan::known_members::UnknownMember;

@@ -1,7 +1,8 @@
 //! The plan of a rechunking of which a worker holds at most so many elements: in one stage, or in two, by an intermediate array.
-ghost use Rattle.programs.specs.chunkplan.Common.{◌≡◌, ◌⊎◌, ◌↔◌, ℕ, IfErr, IfOk, IsTrue, List, MatchOption, None, Some, FindsShape, HoldAtMost};
+ghost use Rattle.std.specs.Prelude.{◌≡◌, ◌⊎◌, ◌↔◌};
+ghost use Rattle.programs.specs.chunkplan.Common.{ℕ, IfErr, IfOk, IsTrue, List, MatchOption, None, Some, FindsShape, HoldAtMost, IsLargest};
+ghost use Rattle.programs.specs.chunkplan.Common.{IsBoundFault, IsStagesFault, made_of, Memory, written};
 ghost use Rattle.zarrs_chunk_plan.specs.Stages.{bound_for};
-ghost use Rattle.programs.specs.chunkplan.Common.{IsLargest, IsBoundFault, IsStagesFault, made_of, Memory, written};
 ghost use Rattle.programs.specs.chunkplan.Document.{wanted_of};
 ghost use Rattle.programs.specs.chunkplan.Planned.{AreCountsBetween, AreCountsOfAll, IsWholeText, one_stage_in, stages_counts_text, within_text};
 ghost use Rattle.programs.specs.chunkplan.seen.Between.{TellsStages};

@@ -1,5 +1,6 @@
 -- What a writer of JSON has after some tokens were written.
-use Rattle.programs.specs.chunkplan.Common.{◌≡◌, List, ◌++◌, Token}
+use Rattle.std.specs.Prelude.{◌≡◌, ◌++◌}
+use Rattle.programs.specs.chunkplan.Common.{List, Token}
 use Rattle.json.specs.Written.{Written}
 
 -- these tokens were appended, and what stood before them stands

@@ -1,6 +1,7 @@
 -- The intermediate array, as the program makes it.
-use Rattle.programs.specs.chunkplan.Common.{◌≡◌, ℕ, List, Some, Dimension, array_sizes, encoding_in, grid_kind, regular, grid_in, FindsShape}
-use Rattle.programs.specs.chunkplan.Common.{RunFault, Stages}
+use Rattle.std.specs.Prelude.{◌≡◌}
+use Rattle.programs.specs.chunkplan.Common.{ℕ, List, Some, Dimension, array_sizes, encoding_in, grid_kind, regular, grid_in, FindsShape, RunFault}
+use Rattle.programs.specs.chunkplan.Common.{Stages}
 use Rattle.zarrs_chunk_plan.specs.declared.two_stages.stages_error.StagesError.{StagesError}
 use Rattle.programs.specs.chunkplan.Planned.{between_keys}
 use Rattle.programs.specs.chunkplan.seen.Opened.{sizes_of}

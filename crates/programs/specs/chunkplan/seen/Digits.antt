@@ -1,5 +1,6 @@
 -- Numbers as lists of decimal digits, the last one first.
-use Rattle.programs.specs.chunkplan.Common.{◌≡◌, ℕ, ◌+◌, ◌*◌, ◌<◌, List, [], ◌∷◌, AllByRecursion, IsNumeral}
+use Rattle.std.specs.Prelude.{◌≡◌, ◌+◌, ◌*◌, ◌<◌, ◌∷◌}
+use Rattle.programs.specs.chunkplan.Common.{ℕ, List, [], AllByRecursion, IsNumeral}
 
 abbrev pub AreDigits : List ℕ → Type 0
 AreDigits = AllByRecursion (λ digit. digit < 10)

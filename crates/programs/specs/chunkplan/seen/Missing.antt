@@ -1,7 +1,7 @@
 -- What is known after some keys were read.
-use Rattle.programs.specs.chunkplan.Common.{◌≡◌, ◌↔◌, ◌⊎◌, ◌++◌, ◌&&◌, ℕ, Bool, true, false, if◌then◌else◌, Contains, IfSome, length, List, [], ◌∷◌}
-use Rattle.programs.specs.chunkplan.Common.{Option, Some, IsUtf8, Dimension, EndsInSlash, Group, counted, before_share, share_of, Part, Share, Order}
-use Rattle.programs.specs.chunkplan.Common.{RunFault, KeyNotText, Memory, Read}
+use Rattle.std.specs.Prelude.{◌≡◌, ◌↔◌, ◌⊎◌, ◌++◌, ◌&&◌, if◌then◌else◌, ◌∷◌}
+use Rattle.programs.specs.chunkplan.Common.{ℕ, Bool, true, false, Contains, IfSome, length, List, [], Option, Some, IsUtf8, Dimension, EndsInSlash}
+use Rattle.programs.specs.chunkplan.Common.{Group, counted, before_share, share_of, Part, Share, Order, RunFault, KeyNotText, Memory, Read}
 use Rattle.zarrs_chunk_plan.specs.declared.copy.stored_chunks.StoredChunks.{StoredChunks}
 use Rattle.zarrs_chunk_plan.specs.seen.StoredChunks.{Knows, is_stored}
 use Rattle.programs.specs.chunkplan.Keys.{AreForeign, IsFirstNoText, foreign_lines}

@@ -1,7 +1,7 @@
 -- A line in the pieces in which it is sent.
-use Rattle.programs.specs.chunkplan.Common.{ℕ, zero, List, [], ◌∷◌, ◌++◌, codes, Option, None, Some, option_map, print, Token, begin_array}
-use Rattle.programs.specs.chunkplan.Common.{begin_object, boolean, end_array, end_object, key, json_tokens, members_tokens, Part, Order, Source}
-use Rattle.programs.specs.chunkplan.Common.{Target}
+use Rattle.std.specs.Prelude.{◌∷◌, ◌++◌}
+use Rattle.programs.specs.chunkplan.Common.{ℕ, zero, List, [], codes, Option, None, Some, option_map, print, Token, begin_array, begin_object}
+use Rattle.programs.specs.chunkplan.Common.{boolean, end_array, end_object, key, json_tokens, members_tokens, Part, Order, Source, Target}
 use Rattle.programs.specs.chunkplan.Document.{RangesWanted, ranges_asked_of}
 use Rattle.programs.specs.chunkplan.Line.{chunk_json, count_json, end_members, line_of, part_json, part_ranges_json, piece_json}
 use Rattle.streams.specs.OneLine.{line_of as one_line, unbroken}

@@ -1,6 +1,7 @@
 -- What a step leaves that sends the text of a plan.
-use Rattle.programs.specs.chunkplan.Common.{◌≡◌, ◌⊎◌, ℕ, Bool, true, false, List, [], IsOkAnd, Option, Some, Result, Ok, Err, Vec, Global, RunFault}
-use Rattle.programs.specs.chunkplan.Common.{Memory, Read, Write}
+use Rattle.std.specs.Prelude.{◌≡◌, ◌⊎◌}
+use Rattle.programs.specs.chunkplan.Common.{ℕ, Bool, true, false, List, [], IsOkAnd, Option, Some, Result, Ok, Err, Vec, Global, RunFault, Memory}
+use Rattle.programs.specs.chunkplan.Common.{Read, Write}
 use Rattle.std.specs.declared.alloc.AllocError.{AllocError}
 use Rattle.programs.specs.chunkplan.Keys.{HasKeysBehind, first_line}
 use Rattle.programs.specs.chunkplan.Planned.{IsPlanOf}
