@@ -1,6 +1,6 @@
 -- The calls that prepare a grid and an encoding, and those of prepared ones.
 -- Sources: Zarr V3 core, chunk grids, chunk key encodings; the numbers are this library's own.
-use Rattle.std.specs.Prelude.{◌≡◌, ℕ, List, length}
+use Rattle.std.specs.Prelude.{◌≡◌, ◌⊎◌, ℕ, List, MatchResult, length}
 use Rattle.zarrs_chunk_base.specs.Grid.{Grid}
 use Rattle.zarrs_chunk_keys.specs.ChunkKey.{Encoding}
 use Rattle.zarrs_chunk_prepared.specs.Prepared.{IsPreparedGrid, IsWrittenGrid}
@@ -10,7 +10,7 @@ use Rattle.zarrs_chunk_batches.specs.Calls.{Call, EndsForEach, Request}
 use Rattle.zarrs_chunk_batches.specs.Codes.{End}
 use Rattle.zarrs_chunk_batches.specs.GridCalls.{grid_call}
 use Rattle.zarrs_chunk_batches.specs.KeyCalls.{encoding_call, encoding_request}
-use Rattle.zarrs_chunk_batches.specs.declared.codes.Fault.TheVariants.{Short}
+use Rattle.zarrs_chunk_batches.specs.declared.codes.Fault.TheVariants.{Memory, NotPrepared, Short}
 
 -- The numbers of a grid. They are refused where they are more than their buffer holds.
 abbrev pub prepare_grid_call : (shape metadata numbers : List ℕ) (needed : ℕ) → Call Grid
@@ -37,6 +37,11 @@ prepare_encoding_call metadata numbers needed =
     (λ encoding fault. (fault ≡ Short) × IsTooLong (λ prepared. IsPreparedEncoding prepared encoding) numbers needed)
     (λ encoding. IsWhole (λ prepared. IsPreparedEncoding prepared encoding) numbers needed))
 
--- A request of prepared numbers ends as it does of the encoding whose they are. Of other numbers nothing is said.
-abbrev pub EndsForPreparedKeys : (numbers : List ℕ) → Request Encoding → End → Type 0
-EndsForPreparedKeys numbers = EndsForEach (IsPreparedEncoding numbers)
+-- the numbers are refused, or memory ran out
+abbrev pub IsUnread : End → Type 0
+IsUnread end = MatchResult end (λ _. ⊥) (λ fault. (fault ≡ Memory) ⊎ (fault ≡ NotPrepared))
+
+-- A request of prepared numbers ends as it does of the encoding whose they are; numbers of no encoding are refused.
+pub record EndsForPreparedKeys (numbers : List ℕ) (request : Request Encoding) (end : End) : Type 0 where
+  pub of_encoding : EndsForEach (IsPreparedEncoding numbers) request end
+  pub of_none : ((encoding : Encoding) → ¬ IsPreparedEncoding numbers encoding) → IsUnread end

@@ -1,5 +1,5 @@
 //! The call that prepares an encoding, and what is asked of a prepared one.
-ghost use Rattle.std.specs.Prelude.{◌≡◌, ◌⊎◌, MatchResult, OnOk, drop};
+ghost use Rattle.std.specs.Prelude.{◌≡◌, ◌⊎◌, IfOk, MatchResult, OnOk, drop};
 ghost use Rattle.zarrs_chunk_batches.specs.Batch.{AreKept};
 ghost use Rattle.zarrs_chunk_batches.specs.Calls.{IfWritten, IsEndOf, IsKeptIfShort};
 ghost use Rattle.zarrs_chunk_batches.specs.KeyCalls.{chunks_of_keys_request, keys_request};
@@ -45,7 +45,8 @@ pub fn prepare_encoding(
 /// # Errors
 /// The numbers aren't an encoding's; or out of memory.
 fn read_keys(alloc: Global, numbers: &[u64]) -> Result<ChunkKeyEncoding, Fault>
-    ensures { MatchResult result
+    ensures prepared { IfOk result (λ read. IsPreparedEncoding numbers.now (encoding_in read)) }
+    ensures one { MatchResult result
         (λ read. (encoding : Encoding) → IsPreparedEncoding numbers.now encoding
         → encoding_in read ≡ encoding)
         (λ fault. (fault ≡ Memory) ⊎ ((fault ≡ NotPrepared)
