@@ -18,7 +18,7 @@ class ChangedChunks:
     | are deleted | below `before`, and not below `after` |
     | are created | below `after`, and not below `before` |
 
-    The numbers of a chunk are below a list if each is less than the list's number of that dimension. A list that no chunk is below has zeros."""
+    The numbers of a chunk are below a list if each is less than the list's number of that dimension. A list that no chunk is below has only zeros."""
 
     before: tuple[int, ...]
     """The chunks that hold elements of the array before the resize."""

@@ -19,8 +19,8 @@ pub record IsPartAt (ds : List Dimension) (subset : Box) (chunk : List ℕ) (buf
       (record { start = list_at (length ds) buffers.in_chunk.now number; shape = list_at (length ds) buffers.shapes.now number })
       (record { start = list_at (length ds) buffers.in_subset.now number; shape = list_at (length ds) buffers.shapes.now number })
 
--- The plan of the box has so many parts in all, as far as a number counts them; and from the part with the number `first` on, as many as there
--- are and there are offsets for are written, one for each chunk of the cover in row-major order, each with a key of its chunk: these keys.
+-- The plan of the box has so many parts in all, as far as a number of 64 bits counts them. The part with the number `first` and those after it are
+-- written, at most one fewer than there are offsets: one for each chunk of the cover in row-major order, each with a key of its chunk, these keys.
 pub record IsPlanWith (ds : List Dimension) (IsKey : List ℕ → List ℕ → Type 0) (subset : Box) (first : ℕ) (buffers : PartBuffers)
     (keys : List ℕ) : Type 0 where
   pub cover : Box

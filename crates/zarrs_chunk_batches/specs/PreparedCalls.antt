@@ -41,7 +41,7 @@ prepare_encoding_call metadata numbers needed =
 abbrev pub IsUnread : End → Type 0
 IsUnread end = MatchResult end (λ _. ⊥) (λ fault. (fault ≡ Memory) ⊎ (fault ≡ NotPrepared))
 
--- A request of prepared numbers ends as it does of the encoding whose they are; numbers of no encoding are refused.
+-- A request of prepared numbers ends as it does of the encoding whose they are. Numbers of no encoding are refused, or memory runs out.
 pub record EndsForPreparedKeys (numbers : List ℕ) (request : Request Encoding) (end : End) : Type 0 where
   pub of_encoding : EndsForEach (IsPreparedEncoding numbers) request end
   pub of_none : ((encoding : Encoding) → ¬ IsPreparedEncoding numbers encoding) → IsUnread end

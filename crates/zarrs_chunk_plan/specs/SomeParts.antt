@@ -9,8 +9,8 @@ use Rattle.zarrs_chunks.specs.Walks.{chunks_in}
 use Rattle.zarrs_chunk_parts.specs.Plan.{Covers, IsPart}
 use Rattle.zarrs_chunk_parts.specs.declared.part.Part.{Part}
 
--- How many parts the plan of a box has, as far as a number counts them; and of these the parts from the one with the number `first` on, at most so
--- many, one for each chunk in row-major order.
+-- How many parts the plan of a box has, as far as a number of 64 bits counts them; and of these the parts from the one with the number `first` on, at
+-- most so many, one for each chunk in row-major order.
 pub record AreSomeParts (ds : List Dimension) (IsKey : List ℕ → List ℕ → Type 0) (subset : Box) (first most in_all : ℕ) (parts : List Part) : Type 0 where
   pub cover : Box
   pub is_cover : Covers ds subset cover

@@ -27,7 +27,7 @@ use Rattle.zarrs_chunk_plan.specs.declared.read.numbered_parts.SomeParts.{SomePa
 use Rattle.zarrs_chunk_plan.specs.seen.Parts.{FindsCovered, FindsSome, HasKeys}
 use Rattle.zarrs_chunk_plan.proofs.Plans.{full_or_narrow, meet_each}
 use Rattle.zarrs_chunk_plan.proofs.SomePlan.{have_parts}
-use Rattle.zarrs_chunk_questions.specs.Pages.{IsPartsAnswer, IsSomePartsAnswer, first_of, is_more, page_tree, parts_tree}
+use Rattle.zarrs_chunk_questions.specs.Pages.{CanHaveParts, IsPartsAnswer, IsSomePartsAnswer, first_of, is_more, page_tree, parts_tree}
 use Rattle.zarrs_chunk_questions.specs.Trees.{box_of}
 use Rattle.zarrs_chunk_questions.specs.Pages.{part_tree}
 use Rattle.zarrs_chunk_questions.specs.Question.{Items, Lists}
@@ -55,6 +55,13 @@ module _ (ds : List Dimension) (HasKey : List ℕ → List ℕ → Type 0) (b : 
   abbrev Found : (most : ℕ) → Result (Option SomeParts) (Refusal IncompatibleDimensionalityError) → Type 0
   Found most answer = IfOk answer (λ found. IfSome found (λ some. AreSomeParts ds HasKey b first most some.in_all some.parts.items))
 
+  abbrev Covered : Result (Option SomeParts) (Refusal IncompatibleDimensionalityError) → Type 0
+  Covered answer = (¬ IsEmptyBox b) ⊎ (length ds ≡ 0) → FindsCovered ds b answer
+
+  can_have : (some : SomeParts) (answer : Result (Option SomeParts) (Refusal IncompatibleDimensionalityError)) → answer ≡ Ok (Some some)
+      → Covered answer → CanHaveParts ds b
+  can_have some answer found covered which = (subst (FindsCovered ds b) found (covered which)).0
+
   -- all parts that were wanted, where there aren't too many
   wanted_parts : (most too_many in_all : ℕ) (parts : List Part) → AreSomeParts ds HasKey b first (min most too_many) in_all parts
       → length parts ≢ too_many → AreSomeParts ds HasKey b first most in_all parts
@@ -70,12 +77,13 @@ module _ (ds : List Dimension) (HasKey : List ℕ → List ℕ → Type 0) (b : 
 
   -- the page of the parts that were made
   pub parts_page : (wanted most too_many count : ℕ) (some : SomeParts) (answer : Result (Option SomeParts) (Refusal IncompatibleDimensionalityError))
-      (trees : List Value) (t : Data) → answer ≡ Ok (Some some) → Found wanted answer
+      (trees : List Value) (t : Data) → answer ≡ Ok (Some some) → Covered answer → Found wanted answer
       → wanted ≡ min most too_many → map view trees ≡ map part_tree some.parts.items → count ≡ length some.parts.items → count ≢ too_many
       → t ≡ page_tree (map view trees) (is_more first count some.in_all) → IsPartsAnswer ds HasKey b first most t
-  parts_page wanted most too_many count some answer trees t found may wants made counted few is =
+  parts_page wanted most too_many count some answer trees t found covered may wants made counted few is =
       let told : Found (min most too_many) (Ok (Some some)) = rw (found, wants) at may in
       inr (
+        can_have some answer found covered,
         some.in_all,
         some.parts.items,
         wanted_parts most too_many some.in_all some.parts.items told (rw counted at few),
@@ -96,10 +104,10 @@ module _ (ds : List Dimension) (HasKey : List ℕ → List ℕ → Type 0) (b : 
 
   -- where too many were made, all that were asked for exist, and the page is as long as they are
   pub long_page_of : AllByRecursion IsChain ds → HasKeys HasKey → IsBox b → (wanted most too_many : ℕ) (some : SomeParts)
-      (answer : Result (Option SomeParts) (Refusal IncompatibleDimensionalityError)) → answer ≡ Ok (Some some) → Found wanted answer
+      (answer : Result (Option SomeParts) (Refusal IncompatibleDimensionalityError)) → answer ≡ Ok (Some some) → Covered answer → Found wanted answer
       → wanted ≡ min most too_many → length some.parts.items ≡ too_many
       → (t : Data) × IsPartsAnswer ds HasKey b first most t × (too_many * part_least ds ≤ text_long t)
-  long_page_of chains keys is_box wanted most too_many some answer found may wants many =
+  long_page_of chains keys is_box wanted most too_many some answer found covered may wants many =
       let told : Found (min most too_many) (Ok (Some some)) = rw (found, wants) at may in
       let are : AreSomeParts ds HasKey b first (min most too_many) some.in_all some.parts.items = told in
       let all = chunks_in are.cover in
@@ -113,7 +121,13 @@ module _ (ds : List Dimension) (HasKey : List ℕ → List ℕ → Type 0) (b : 
       let taken = length-take (min (some.in_all - first) most) (drop first all) in
       let also = length-take (min (some.in_all - first) (min most too_many)) (drop first all) in (
         parts_tree first some.in_all parts,
-        inr (some.in_all, parts, record { cover = are.cover; is_cover = are.is_cover; counted = are.counted; are_parts = zipped }, refl),
+        inr (
+          can_have some answer found covered,
+          some.in_all,
+          parts,
+          record { cover = are.cover; is_cover = are.is_cover; counted = are.counted; are_parts = zipped },
+          refl,
+        ),
         long_parts too_many some.in_all parts (parts_long ds HasKey b asked parts zipped meets) (omega arith),
       )
 

@@ -17,7 +17,8 @@ ranges_tree ranges =
     (member (codes "length") (size_tree ranges.length)
     (member (codes "strides") (numbers_tree ranges.strides.items) no_members))))
 
--- The answer to `byte_ranges`: the ranges of a box with as many dimensions as the chunk; null, where there are none.
+-- The answer to `byte_ranges`: the ranges of a box with as many dimensions as the chunk; null, if the box doesn't lie in the chunk or no number counts
+-- the chunk's bytes.
 pub record IsBytesAnswer (asked : BytesAsked) (t : Data) : Type 0 where
   pub is_box : IsBox (box_of asked.elements)
   pub lengths : length asked.elements.0 ≡ length asked.edges

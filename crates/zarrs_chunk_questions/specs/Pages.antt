@@ -92,16 +92,21 @@ part_tree part =
 abbrev pub parts_tree : (first in_all : ℕ) → List Part → Data
 parts_tree first in_all parts = page_tree (map part_tree parts) (is_more first (length parts) in_all)
 
--- The box isn't empty, and its first or its last element lies in no chunk.
+-- The box isn't empty, has as many dimensions as the grid, and its first or its last element lies in no chunk.
 abbrev pub HasNoPlan : List Dimension → Box → Type 0
 HasNoPlan ds b =
     (¬ IsEmptyBox b) × (length b.start ≡ length ds) × (HasNoHome ds b.start ⊎ HasNoHome ds (lasts b.start b.shape))
 
--- null, where the box has no plan; or the parts
+-- the box has as many dimensions as the grid, or is empty in a grid with dimensions
+abbrev pub CanHaveParts : List Dimension → Box → Type 0
+CanHaveParts ds b = (¬ IsEmptyBox b) ⊎ (length ds ≡ 0) → length b.start ≡ length ds
+
+-- null, if the box has no plan; or some of its parts, and whether more follow
 abbrev pub IsPartsAnswer : List Dimension → (List ℕ → List ℕ → Type 0) → Box → (first most : ℕ) → Data → Type 0
 IsPartsAnswer ds HasKey b first most t =
     ((t ≡ null) × HasNoPlan ds b)
-    ⊎ ((in_all : ℕ) × (parts : List Part) × AreSomeParts ds HasKey b first most in_all parts × (t ≡ parts_tree first in_all parts))
+    ⊎ (CanHaveParts ds b
+    × (in_all : ℕ) × (parts : List Part) × AreSomeParts ds HasKey b first most in_all parts × (t ≡ parts_tree first in_all parts))
 
 abbrev pub IsSomePartsAnswer : Data → Items → Lists → Grid → Data → Type 0
 IsSomePartsAnswer tree items lists grid t =

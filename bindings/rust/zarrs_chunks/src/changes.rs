@@ -16,8 +16,9 @@ use crate::reader::Reader;
 /// | are created | below `after`, and not below `before` |
 ///
 /// The numbers of a chunk are below a list if each is less than the list's number of that
-/// dimension. A list that no chunk is below has zeros. A chunk that is rewritten is written in its
-/// new shape, without the elements that leave it: so these can't come back if the array grows again.
+/// dimension. A list that no chunk is below has only zeros. A chunk that is rewritten is written in
+/// its new shape, without the elements that leave it: so these can't come back if the array grows
+/// again.
 ///
 /// # Example
 ///

@@ -17,7 +17,7 @@ use zarrs_chunks::ChunkGridTraits;
 /// | are deleted | below `before`, and not below `after` |
 /// | are created | below `after`, and not below `before` |
 ///
-/// The numbers of a chunk are below a list if each is less than the list's number of that dimension. A list that no chunk is below has zeros.
+/// The numbers of a chunk are below a list if each is less than the list's number of that dimension. A list that no chunk is below has only zeros.
 #[derive(Debug, Drop)]
 pub struct ChangedChunks {
     /// The chunks that hold elements of the array before the resize.

@@ -41,8 +41,8 @@ pub(crate) fn long_count(shape: &[u64]) -> u128
     count
 }
 
-/// The chunk with this number, of those in a box of chunk numbers. They are numbered from 0 in row-major order, and those before it take no time: so a
-/// walk over [all chunks of a grid](crate::all_chunks) can begin at any of them.
+/// The chunk with this number, which has to be one of those in a box of chunk numbers. They are numbered from 0 in row-major order, and those before it
+/// take no time: so a walk over [all chunks of a grid](crate::all_chunks) can begin at each that a number of 64 bits counts.
 ///
 /// # Errors
 /// Out of memory.

@@ -35,7 +35,7 @@ returns-then-is_too_many c =
     let many : length some.parts.items ≡ limits.too_many = search rules in
     long_page_of ds (IsKey (encoding_in c.args.encoding.now)) c.args.elements.now c.args.first (chained_in c.args.grid.now)
     (has_key (encoding_in c.args.encoding.now)) c.is_a_box.ensures c.wanted-most.result limits.most limits.too_many some c.some_parts.result
-    (c.in_ok-some.ensures.found ∙ ap Ok c.in-Some.is) c.some_parts.ensures.parts c.wanted-most.ensures many
+    (c.in_ok-some.ensures.found ∙ ap Ok c.in-Some.is) c.some_parts.ensures.answers c.some_parts.ensures.parts c.wanted-most.ensures many
 
 pub returns : goal.returns
 returns c =
@@ -47,5 +47,5 @@ returns c =
     parts_page ds (IsKey (encoding_in c.args.encoding.now)) c.args.elements.now c.args.first c.wanted-most.result limits.most limits.too_many
     c.len-count.result some c.some_parts.result c.in_ok-items.items.items (view c.in_ok-page_tree.field-0)
     (c.in_ok-some.ensures.found ∙ ap Ok c.in-Some.is)
-    c.some_parts.ensures.parts c.wanted-most.ensures (c.in_ok-items.ensures ∙ ap (map part_tree) c.deref.ensures.value) counted few
+    c.some_parts.ensures.answers c.some_parts.ensures.parts c.wanted-most.ensures (c.in_ok-items.ensures ∙ ap (map part_tree) c.deref.ensures.value) counted few
     c.in_ok-page_tree.ensures
