@@ -10,9 +10,11 @@ pub mod Plans
 pub mod Rechunkings
 pub mod SameBoxes
 pub mod ShareLists
+pub mod SharedBoxes
 pub mod SomePlan
 pub mod SomeRegions
 pub mod SomeResizes
 pub mod StridedForms
 pub mod Taken
+pub mod TakenBoxes
 pub mod Walked

@@ -1,6 +1,6 @@
 pub mod Between
 pub mod Changes
-pub mod ChunksBetween
+pub mod ChunkIter
 pub mod Copies
 pub mod Ends
 pub mod Outside

@@ -5,6 +5,7 @@
 //! | Module | What it tests |
 //! |---|---|
 //! | `rows` | the arrays that are planned, the boxes of their elements, and the lines of parts |
+//! | `tasks` | the tasks of a copy |
 //! | `walks` | walks that stay ended, and that go to any part or group |
 //! | `largest` | the shapes of largest chunks |
 //! | `marks` | which chunks of a plan a store has |
@@ -22,5 +23,7 @@ mod marks;
 mod refusals;
 #[cfg(test)]
 mod rows;
+#[cfg(test)]
+mod tasks;
 #[cfg(test)]
 mod walks;

@@ -10,7 +10,7 @@ use Rattle.zarrs_chunk_plan.specs.declared.resize.chunk_changes.Changes.{Changes
 use Rattle.zarrs_chunk_plan.specs.declared.resize.plan.Change.{Change}
 use Rattle.zarrs_chunk_plan.specs.declared.resize.plan.Change.TheVariants.{Delete, Keep, New, Rewrite}
 use Rattle.zarrs_chunk_plan.specs.declared.resize.plan.ChunkChange.{ChunkChange}
-use Rattle.zarrs_chunk_plan.specs.seen.ChunksBetween.{chunks_between}
+use Rattle.zarrs_chunk_plan.specs.seen.ChunkIter.{chunks_between}
 use Rattle.zarrs_chunk_plan.specs.seen.Outside.{chunks_of_boxes}
 
 module _ {G H E : Type 0} where

@@ -11,7 +11,7 @@ use Rattle.zarrs_chunk_base.specs.declared.refusal.Refusal.{Refusal}
 use Rattle.zarrs_chunk_base.specs.declared.refusal.Refusal.TheVariants.{Refused, Memory}
 use Rattle.zarrs_chunks.specs.Subsets.{HasNoHome}
 use Rattle.zarrs_chunks.specs.Walks.{Gives, chunks_in}
-use Rattle.zarrs_chunk_plan.specs.seen.ChunksBetween.{all_between, chunks_between, offsets_between}
+use Rattle.zarrs_chunk_plan.specs.seen.ChunkIter.{all_between, chunks_between, offsets_between}
 use Rattle.zarrs_chunk_parts.specs.Plan.{Covers, IsPart, Meets}
 use Rattle.zarrs_chunk_parts.specs.declared.part.Part.{Part}
 use Rattle.zarrs_chunk_plan.specs.declared.read.walk.Parts.{Parts}

@@ -30,11 +30,7 @@ fn ends_within(first: u64, count: u64, size: u64) -> bool
 ///
 /// # Errors
 /// Out of memory; or the box would end past 18446744073709551615.
-pub(crate) fn shifted_box(
-    alloc: Global,
-    first: &[u64],
-    b: &ArraySubset,
-) -> Result<ArraySubset, AllocError>
+pub fn shifted_box(alloc: Global, first: &[u64], b: &ArraySubset) -> Result<ArraySubset, AllocError>
     ensures value { IfOk result (λ moved. moved ≡ shifted first.now b.now) }
     ensures is_box { IfOk result IsBox }
 {

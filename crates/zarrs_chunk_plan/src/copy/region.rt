@@ -70,7 +70,7 @@ pub fn copies_of_region<
 ///
 /// # Errors
 /// As of [`copies_of_region`].
-pub(crate) fn moved_box<G: ChunkGridTraits, H: ChunkGridTraits>(
+pub fn moved_box<G: ChunkGridTraits, H: ChunkGridTraits>(
     alloc: Global,
     source: &G,
     target: &H,

@@ -1,6 +1,5 @@
 //! The walk over the parts of a box of elements.
-use crate::shares::chunks_between::ChunksBetween;
-use crate::shares::numbered_chunks::{count_of, long_count};
+use crate::shares::chunk_iter::ChunkIter;
 use crate::shares::share::Share;
 use std::alloc::{AllocError, Global};
 use zarrs_chunk_base::ArraySubset;
@@ -18,7 +17,7 @@ pub struct Parts<'a, G, E> {
     grid: &'a G,
     encoding: &'a E,
     array_subset: ArraySubset,
-    chunks: ChunksBetween,
+    chunks: ChunkIter,
 }
 
 impl<'a, G: ChunkGridTraits, E: ChunkKeyEncodingTraits> Parts<'a, G, E> {
@@ -48,7 +47,7 @@ impl<'a, G: ChunkGridTraits, E: ChunkKeyEncodingTraits> Parts<'a, G, E> {
             grid,
             encoding,
             array_subset,
-            chunks: ChunksBetween::new(alloc, chunks, &Share::whole())?,
+            chunks: ChunkIter::new(alloc, chunks, &Share::whole())?,
         })
     }
 
@@ -56,7 +55,7 @@ impl<'a, G: ChunkGridTraits, E: ChunkKeyEncodingTraits> Parts<'a, G, E> {
     pub fn in_all(&self) -> Option<u64>
         ensures { result ≡ counted (length (all_chunks self.now)) }
     {
-        count_of(self.chunks.chunks().shape())
+        self.chunks.in_all()
     }
 
     /// Goes to a share of all parts, wherever the walk is, and gives how many come before it; `None` past 18446744073709551615. Those take no time.
@@ -72,10 +71,7 @@ impl<'a, G: ChunkGridTraits, E: ChunkKeyEncodingTraits> Parts<'a, G, E> {
         ensures all { all_chunks self.new ≡ all_chunks self.old }
         ensures about { IsAbout self.old.grid.now self.old.encoding.now self.old.array_subset self.new }
     {
-        let chunks = self.chunks.chunks().clone()?;
-        let before = share.lines_before(long_count(chunks.shape()));
-        self.chunks = ChunksBetween::new(self.alloc, chunks, share)?;
-        Ok(before)
+        self.chunks.share(share)
     }
 
     /// Goes to the part with this number, counted from 0 among all parts, wherever the walk is; nothing is left where there are no more. Those before
@@ -89,9 +85,7 @@ impl<'a, G: ChunkGridTraits, E: ChunkKeyEncodingTraits> Parts<'a, G, E> {
         ensures all { all_chunks self.new ≡ all_chunks self.old }
         ensures about { IsAbout self.old.grid.now self.old.encoding.now self.old.array_subset self.new }
     {
-        let chunks = self.chunks.chunks().clone()?;
-        self.chunks = ChunksBetween::from_number(self.alloc, chunks, first)?;
-        Ok(())
+        self.chunks.skip_to(first)
     }
 
     /// The grid of the chunks.

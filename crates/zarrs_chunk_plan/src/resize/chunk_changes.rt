@@ -3,7 +3,7 @@ use crate::boxes_from_zero::whole_array;
 use crate::resize::changed::ChangedChunks;
 use crate::resize::plan::{Change, ChunkChange, Held};
 use crate::resize::used::held_by;
-use crate::shares::chunks_between::ChunksBetween;
+use crate::shares::chunk_iter::ChunkIter;
 use crate::shares::numbered_chunks::count_of;
 use crate::shares::share::Share;
 use std::alloc::{AllocError, Global};
@@ -27,7 +27,7 @@ pub struct Changes<'a, G, H, E> {
     /// The chunks, in boxes, and which box comes next.
     boxes: Vec<ArraySubset>,
     next_box: usize,
-    chunks: ChunksBetween,
+    chunks: ChunkIter,
 }
 
 impl<'a, G: ChunkGridTraits, H: ChunkGridTraits, E: ChunkKeyEncodingTraits> Changes<'a, G, H, E> {
@@ -38,7 +38,7 @@ impl<'a, G: ChunkGridTraits, H: ChunkGridTraits, E: ChunkKeyEncodingTraits> Chan
     ghost use Rattle.zarrs_chunk_plan.specs.Rechunking.{array_box};
     ghost use Rattle.zarrs_chunk_plan.specs.Resize.{AreChangedChunks, IsChange, IsUsed};
     ghost use Rattle.zarrs_chunk_plan.specs.seen.Changes.{CanChange, IsAboutResize, IsSameWalk, all_changes, changes_to_come};
-    ghost use Rattle.zarrs_chunk_plan.specs.seen.ChunksBetween.{chunks_between};
+    ghost use Rattle.zarrs_chunk_plan.specs.seen.ChunkIter.{chunks_between};
     ghost use Rattle.zarrs_chunk_plan.specs.seen.Outside.{chunks_of_boxes};
 
     /// A walk over the chunks in some boxes.
@@ -70,7 +70,7 @@ impl<'a, G: ChunkGridTraits, H: ChunkGridTraits, E: ChunkKeyEncodingTraits> Chan
             uses,
             boxes,
             next_box: 0,
-            chunks: ChunksBetween::new(alloc, none, &Share::whole())?,
+            chunks: ChunkIter::new(alloc, none, &Share::whole())?,
         })
     }
 
@@ -219,16 +219,16 @@ ghost use Rattle.zarrs_chunk_plan.specs.Counted.{counted};
 ghost use Rattle.zarrs_chunk_plan.specs.Rechunking.{array_box};
 ghost use Rattle.zarrs_chunk_plan.specs.Resize.{IsUsed, MayHold};
 ghost use Rattle.zarrs_chunk_plan.specs.seen.Changes.{what_becomes};
-ghost use Rattle.zarrs_chunk_plan.specs.seen.ChunksBetween.{chunks_between};
+ghost use Rattle.zarrs_chunk_plan.specs.seen.ChunkIter.{chunks_between};
 
 /// A walk over the chunks in a box.
 ///
 /// # Errors
 /// Out of memory.
-fn walk_over(alloc: Global, chunks: &ArraySubset) -> Result<ChunksBetween, AllocError>
+fn walk_over(alloc: Global, chunks: &ArraySubset) -> Result<ChunkIter, AllocError>
     ensures { IfOk result (λ walk. chunks_between walk ≡ chunks_in chunks.now) }
 {
-    ChunksBetween::new(alloc, chunks.clone()?, &Share::whole())
+    ChunkIter::new(alloc, chunks.clone()?, &Share::whole())
 }
 
 /// What becomes of a chunk, by which array uses it, and whether it is one that is kept where both do; nothing where none does.

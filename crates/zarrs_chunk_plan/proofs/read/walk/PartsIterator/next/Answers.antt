@@ -1,5 +1,5 @@
 use Rattle.zarrs_chunk_plan.proofs.Common.{◌≡◌, ◌∷◌, ◌∙◌, ap, refl, subst, sym, AllByRecursion, chunks_in, IsPart, Meets}
-use Rattle.zarrs_chunk_plan.specs.seen.ChunksBetween.{chunks_between}
+use Rattle.zarrs_chunk_plan.specs.seen.ChunkIter.{chunks_between}
 use Rattle.zarrs_chunk_plan.proofs.read.walk.PartsIterator.next.Goals as goal
 
 pub returns-in-Ok-part-clause-steps : goal.returns-in-Ok-part-clause-steps

@@ -1,6 +1,6 @@
 use Rattle.zarrs_chunk_plan.proofs.Common.{◌∙◌, sym}
 use Rattle.std.proofs.lemmas.Bool.{true≢false}
-use Rattle.zarrs_chunk_plan.specs.seen.ChunksBetween.{chunks_between}
+use Rattle.zarrs_chunk_plan.specs.seen.ChunkIter.{chunks_between}
 use Rattle.zarrs_chunk_plan.proofs.resize.ChunksChanged.{passed, some_to_come}
 use Rattle.zarrs_chunk_plan.proofs.resize.chunk_changes.Changes.go_to_next_box.Goals as goal
 

@@ -1,0 +1,143 @@
+//! The tasks of a copy: their boxes, walks that go to any task, and what is refused.
+use crate::rows::{Stored, check_text, edges_of, row, some_of};
+use std::alloc::Global;
+use std::process::Abort;
+use std::test::Fail;
+use zarrs_chunk_base::Refusal;
+use zarrs_chunk_tasks::laws::{
+    no_chunk_is_in_two_tasks, the_tasks_are_the_copy, the_walk_gives_the_tasks,
+};
+use zarrs_chunk_tasks::{Task, Tasks, TasksError, tasks, tasks_by_source};
+use zarrs_chunks::RegularChunkGrid;
+
+/// Where the elements go in the target: from the element with this number on.
+const AT: [u64; 5] = [0, 0, 0, 0, 1];
+
+/// Appends the line of a task: its group, where its boxes begin, and the shape of its buffer.
+fn append_task(alloc: Global, lines: &mut String, task: &Task) -> Result<(), Fail> {
+    let line = format!(in alloc;
+        "{:?} {:?} {:?} {:?}\n",
+        task.group.as_slice(),
+        task.source.start(),
+        task.target.start(),
+        task.source.shape()
+    )?;
+    lines.push_str(line.as_str())?;
+    Ok(())
+}
+
+/// The lines of all tasks that a walk gives.
+fn lines_of(alloc: Global, walk: &mut Tasks<'_, RegularChunkGrid>) -> Result<String, Fail> {
+    let mut lines = String::new(alloc);
+    while let Some(task) = walk.next() {
+        append_task(alloc, &mut lines, &task?)?;
+    }
+    Ok(lines)
+}
+
+/// Twelve elements in chunks of four, and nine in chunks of three.
+fn two_rows(alloc: Global) -> Result<(Stored, Stored), Fail> {
+    Ok((row(alloc, 12, 4)?, row(alloc, 9, 3)?))
+}
+
+/// Seven elements, from 2 on, go to 1 on: the target's first two chunks take five of them, the third takes two.
+const BY_TARGET: &str = "\
+[0, 0, 0, 0, 0] [0, 0, 0, 0, 2] [0, 0, 0, 0, 1] [1, 1, 1, 1, 5]
+[0, 0, 0, 0, 1] [0, 0, 0, 0, 7] [0, 0, 0, 0, 6] [1, 1, 1, 1, 2]
+";
+
+/// The source's first two chunks have six of them, the third has one.
+const BY_SOURCE: &str = "\
+[0, 0, 0, 0, 0] [0, 0, 0, 0, 2] [0, 0, 0, 0, 1] [1, 1, 1, 1, 6]
+[0, 0, 0, 0, 1] [0, 0, 0, 0, 8] [0, 0, 0, 0, 7] [1, 1, 1, 1, 1]
+";
+
+#[test]
+fn tasks_group_the_chunks_of_either_array(rt: HostRuntime) -> Result<(), Fail> {
+    let alloc = rt.alloc();
+    let (source, target) = two_rows(alloc)?;
+    let (region, each) = (some_of(alloc, 2, 7)?, edges_of(alloc, 2)?);
+    let mut walk = tasks(alloc, &source.grid, &target.grid, &region, &AT, &each)?;
+    assert_eq!(rt; walk.in_all(), Some(2));
+    check_text(&rt, lines_of(alloc, &mut walk)?.as_str(), BY_TARGET);
+    let mut walk = tasks_by_source(alloc, &source.grid, &target.grid, &region, &AT, &each)?;
+    check_text(&rt, lines_of(alloc, &mut walk)?.as_str(), BY_SOURCE);
+    Ok(())
+}
+
+#[test]
+fn a_walk_goes_to_any_task(rt: HostRuntime) -> Result<(), Fail> {
+    let alloc = rt.alloc();
+    let (source, target) = two_rows(alloc)?;
+    let (region, each) = (some_of(alloc, 2, 7)?, edges_of(alloc, 2)?);
+    let mut walk = tasks(alloc, &source.grid, &target.grid, &region, &AT, &each)?;
+    for (number, expected) in [(2, 0), (1, 1), (u64::MAX, 0), (0, 2)] {
+        walk.skip_to(number)?;
+        let mut count = 0;
+        while let Some(task) = walk.next() {
+            task?;
+            count += 1;
+        }
+        assert_eq!(rt; count, expected);
+        assert!(rt; walk.next().is_none(), "a walk goes on after its end");
+    }
+    Ok(())
+}
+
+#[test]
+fn an_empty_region_has_no_tasks(rt: HostRuntime) -> Result<(), Fail> {
+    let alloc = rt.alloc();
+    let (source, target) = two_rows(alloc)?;
+    let (region, each) = (some_of(alloc, 12, 0)?, edges_of(alloc, 2)?);
+    let mut walk = tasks(alloc, &source.grid, &target.grid, &region, &AT, &each)?;
+    assert_eq!(rt; walk.in_all(), Some(0));
+    check_text(&rt, lines_of(alloc, &mut walk)?.as_str(), "");
+    Ok(())
+}
+
+/// Why a copy has no tasks.
+fn why(
+    alloc: Global,
+    answer: Result<Tasks<'_, RegularChunkGrid>, Refusal<TasksError>>,
+) -> Result<String, Fail> {
+    match answer {
+        Err(Refusal::Refused(error)) => Ok(format!(in alloc; "{error}")?),
+        Err(Refusal::Memory(error)) => Err(error.into()),
+        Ok(_) => Ok(String::from_str(alloc, "it is accepted")?),
+    }
+}
+
+#[test]
+fn what_does_not_fit_is_refused(rt: HostRuntime) -> Result<(), Fail> {
+    let alloc = rt.alloc();
+    let (source, target) = two_rows(alloc)?;
+    let (long, region, each) = (
+        some_of(alloc, 2, 9)?,
+        some_of(alloc, 2, 7)?,
+        edges_of(alloc, 2)?,
+    );
+    let told = why(
+        alloc,
+        tasks(alloc, &source.grid, &target.grid, &long, &AT, &each),
+    )?;
+    let past = "the region, moved to the index to begin at, has to end within the target's array";
+    check_text(&rt, told.as_str(), past);
+    let few = &each[..1];
+    let told = why(
+        alloc,
+        tasks_by_source(alloc, &source.grid, &target.grid, &region, &AT, few),
+    )?;
+    let lengths = "the chunks a task: incompatible dimensionality 1, expected 5";
+    check_text(&rt, told.as_str(), lengths);
+    Ok(())
+}
+
+#[test]
+fn the_laws_hold(rt: HostRuntime) -> Result<(), Fail> {
+    let (source, target) = two_rows(rt.alloc())?;
+    let region = some_of(rt.alloc(), 2, 7)?;
+    the_walk_gives_the_tasks(&target.grid);
+    the_tasks_are_the_copy(&source.grid, &target.grid, &region);
+    no_chunk_is_in_two_tasks(&source.grid, &target.grid);
+    Ok(())
+}

@@ -1,0 +1,4 @@
+mod GroupBoxes
+mod GroupsAlong
+mod TaskLaws
+mod WalkedTasks

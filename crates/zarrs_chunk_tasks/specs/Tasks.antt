@@ -1,0 +1,59 @@
+-- The tasks of a copy: each fills a buffer from the source's array, and writes it to the target's.
+-- Source: Zarr V3 core, chunk grids; tasks are this library's own.
+use Rattle.std.specs.Prelude.{◌≡◌, ◌≢◌, ◌↔◌, ℕ, List, length}
+use Rattle.std.specs.List.{AllPairs, AllZip, Contains}
+use Rattle.zarrs_chunk_base.specs.ArraySubset.{Box, IsBox, IsInside}
+use Rattle.zarrs_chunk_base.specs.Dimension.{Dimension}
+use Rattle.zarrs_chunk_base.specs.Refusal.{TellsLengths}
+use Rattle.zarrs_chunks.specs.Walks.{chunks_in}
+use Rattle.zarrs_chunk_plan.specs.Region.{CanBeMoved, IsDestination, IsRegionFault, moved, shifted}
+use Rattle.zarrs_chunk_tasks.specs.Groups.{HoldsSomeOf, IsBuffer}
+use Rattle.zarrs_chunk_tasks.specs.declared.task.Task.{Task}
+use Rattle.zarrs_chunk_tasks.specs.declared.tasks_error.TasksError.{TasksError}
+use Rattle.zarrs_chunk_tasks.specs.declared.tasks_error.TasksError.TheVariants.{Region, TaskChunks}
+
+-- The chunks of one of the two arrays are grouped, and `elements` is the box of that array that is copied. In the source's array the copy begins at
+-- `first`, in the target's at `at`.
+module _ (ds : List Dimension) (each : List ℕ) (elements : Box) (first at : List ℕ) where
+  -- The task of a group: its buffer is what the group holds. Its two boxes lie as far behind `first` and `at` as the buffer does behind the first element.
+  pub record IsTask (group : List ℕ) (task : Task) : Type 0 where
+    pub numbers : task.group.items ≡ group
+    pub behind : Box
+    pub is_box : IsBox behind
+    pub buffer : IsBuffer ds each elements group (shifted elements.start behind)
+    pub source : task.source ≡ shifted first behind
+    pub target : task.target ≡ shifted at behind
+
+  -- a task for each group that holds some of the elements, in row-major order of the groups
+  pub record AreTasks (tasks : List Task) : Type 0 where
+    pub groups : Box
+    pub is_box : IsBox groups
+    pub named : (group : List ℕ) → IsInside groups group ↔ HoldsSomeOf ds each elements group
+    pub are_tasks : AllZip IsTask (chunks_in groups) tasks
+
+-- the tasks of the copy of a region, by groups of the target's chunks, and by groups of the source's
+abbrev pub AreTasksByTarget : (target : List Dimension) → (each : List ℕ) → (region : Box) → (at : List ℕ) → List Task → Type 0
+AreTasksByTarget target each region at = AreTasks target each (moved at region) region.start at
+
+abbrev pub AreTasksBySource : (source : List Dimension) → (each : List ℕ) → (region : Box) → (at : List ℕ) → List Task → Type 0
+AreTasksBySource source each region at = AreTasks source each region region.start at
+
+-- the task moves the element at an index of the source's array to an index of the target's: both are as far behind the first elements of its two boxes
+abbrev pub Moves : Task → (index to : List ℕ) → Type 0
+Moves task = IsDestination task.source task.target.start
+
+-- The tasks are the copy of a region: they move each element to where it goes, and nothing else. No two read one element, or write one.
+pub record AreTheCopy (region : Box) (at : List ℕ) (tasks : List Task) : Type 0 where
+  pub moved : (index to : List ℕ) → IsDestination region at index to ↔ ((task : Task) × Contains tasks task × Moves task index to)
+  pub read_once : AllPairs (λ one other. (index to also : List ℕ) → Moves one index to → Moves other index also → ⊥) tasks
+  pub written_once : AllPairs (λ one other. (to index also : List ℕ) → Moves one index to → Moves other also to → ⊥) tasks
+
+-- The copy has tasks: there are as many numbers of chunks as dimensions, and the region lies in both arrays.
+pub record HasTasks (source target : List ℕ) (region : Box) (at each : List ℕ) : Type 0 where
+  pub lengths : length each ≡ length source
+  pub can : CanBeMoved source target region at
+
+-- The first fault: the list has another length than the source has dimensions; that of the region.
+abbrev pub IsTasksFault : (source target : List ℕ) → Box → (at each : List ℕ) → TasksError → Type 0
+IsTasksFault source target region at each (TaskChunks e) = (length each ≢ length source) × TellsLengths (length each) (length source) e
+IsTasksFault source target region at each (Region e) = (length each ≡ length source) × IsRegionFault source target region at e

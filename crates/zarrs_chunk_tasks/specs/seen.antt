@@ -1,0 +1,2 @@
+pub mod GroupNumbers
+pub mod Tasks

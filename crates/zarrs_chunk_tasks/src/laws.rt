@@ -1,0 +1,63 @@
+//! What holds of the tasks of every copy, over any grids. It follows from the laws of [`zarrs_chunks::laws`].
+//! The laws are about every answer that the contracts of the calls allow, and don't make the calls.
+//!
+//! | What holds | The function whose contract says it |
+//! |---|---|
+//! | What a walk that `tasks` or `tasks_by_source` returns gives, one after another, are the tasks of the copy | [`the_walk_gives_the_tasks`] |
+//! | Each element of the region is moved by exactly one task, to where it goes; no task moves anything else | [`the_tasks_are_the_copy`] |
+//! | No chunk of the grouped array is in two tasks | [`no_chunk_is_in_two_tasks`] |
+ghost use Rattle.std.specs.Prelude.{ℕ, List, Ok, map};
+ghost use Rattle.std.specs.Iterator.{Drains};
+ghost use Rattle.std.specs.List.{AllPairs};
+ghost use Rattle.zarrs_chunk_base.specs.ArraySubset.{Box};
+ghost use Rattle.zarrs_chunk_base.specs.Dimension.{array_sizes};
+ghost use Rattle.zarrs_chunk_parts.specs.Plan.{Meets};
+ghost use Rattle.zarrs_chunk_tasks.specs.Tasks.{AreTasks, AreTasksBySource, AreTasksByTarget, AreTheCopy, HasTasks};
+ghost use Rattle.zarrs_chunk_tasks.specs.seen.Tasks.{ArePlanned, AreTasksToCome, CanGive, GivesTask};
+
+use crate::{Task, Tasks};
+use zarrs_chunk_base::ArraySubset;
+use zarrs_chunks::ChunkGridTraits;
+
+/// What a walk gives up to its end is its tasks to come. These are the tasks of the copy, for a walk that `tasks` or `tasks_by_source` returns: one for
+/// each group that holds some of the region, in order.
+pub fn the_walk_gives_the_tasks<G: ChunkGridTraits>(grid: &G)
+    ensures to_come { (walk : Tasks G) (tasks : List Task) → CanGive G.dimensions walk
+        → Drains (GivesTask G.dimensions) walk (map Ok tasks)
+        → AreTasksToCome G.dimensions walk tasks }
+    ensures tasks { (each : List ℕ) (elements : Box) (first at : List ℕ) (walk : Tasks G)
+        (tasks : List Task) → ArePlanned G.dimensions grid.now each elements first at walk
+        → AreTasksToCome G.dimensions walk tasks
+        → AreTasks (G.dimensions grid.now) each elements first at tasks }
+{}
+
+/// Each element of the region is moved by some task, to where it goes, and no task moves anything else. No two tasks read one element of the source's
+/// array, or write one of the target's.
+pub fn the_tasks_are_the_copy<G: ChunkGridTraits, H: ChunkGridTraits>(
+    source: &G,
+    target: &H,
+    region: &ArraySubset,
+)
+    ensures by_target { (at each : List ℕ) (tasks : List Task)
+        → HasTasks (array_sizes (G.dimensions source.now)) (array_sizes (H.dimensions target.now))
+        region.now at each → AreTasksByTarget (H.dimensions target.now) each region.now at tasks
+        → AreTheCopy region.now at tasks }
+    ensures by_source { (at each : List ℕ) (tasks : List Task)
+        → HasTasks (array_sizes (G.dimensions source.now)) (array_sizes (H.dimensions target.now))
+        region.now at each → AreTasksBySource (G.dimensions source.now) each region.now at tasks
+        → AreTheCopy region.now at tasks }
+{
+    region.is_a_box();
+}
+
+/// No chunk of the target is in two tasks, if its chunks are grouped, so no two tasks write one chunk. If the source's are, no two read one.
+pub fn no_chunk_is_in_two_tasks<G: ChunkGridTraits, H: ChunkGridTraits>(source: &G, target: &H)
+    ensures by_target { (region : Box) (at each : List ℕ) (tasks : List Task)
+        → AreTasksByTarget (H.dimensions target.now) each region at tasks
+        → AllPairs (λ one other. (chunk : List ℕ) → Meets (H.dimensions target.now) one.target chunk
+        → Meets (H.dimensions target.now) other.target chunk → ⊥) tasks }
+    ensures by_source { (region : Box) (at each : List ℕ) (tasks : List Task)
+        → AreTasksBySource (G.dimensions source.now) each region at tasks
+        → AllPairs (λ one other. (chunk : List ℕ) → Meets (G.dimensions source.now) one.source chunk
+        → Meets (G.dimensions source.now) other.source chunk → ⊥) tasks }
+{}

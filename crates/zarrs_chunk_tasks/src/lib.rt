@@ -1,0 +1,34 @@
+//! Tasks: a copy from one array to another by way of buffers.
+//!
+//! A task fills a buffer from the source's array and writes it to the target's. Its buffer is what a group of neighbouring chunks holds of the elements that are
+//! copied, so each chunk of the grouped array is in one task. [`tasks`] groups the chunks of the target, [`tasks_by_source`] those of the source.
+//! What a task reads is the plan [`parts`](zarrs_chunk_plan::parts) of its box in the source's array, what it writes that of its box in the target's.
+//!
+//! ```text
+//! 4 x 12 elements from chunks [1, 12] to chunks [4, 3], two chunks of the target a task
+//!   task [0, 0]  source [0..4, 0..6]   target [0..4, 0..6]
+//!   task [0, 1]  source [0..4, 6..12]  target [0..4, 6..12]
+//! ```
+//!
+//! | Module | What it holds |
+//! |---|---|
+//! | `task` | one task |
+//! | `plan` | the tasks of a copy |
+//! | `walk` | the walk over them, one after another |
+//! | `buffer` | what a group holds of a box of elements |
+//! | `group_numbers` | the groups of chunks, and the chunks of a group |
+//! | `laws` | what holds of the tasks of every copy |
+#![tactic(auto)]
+
+mod buffer;
+mod group_numbers;
+pub mod laws;
+mod plan;
+mod task;
+mod tasks_error;
+mod walk;
+
+pub use plan::{tasks, tasks_by_source};
+pub use task::Task;
+pub use tasks_error::TasksError;
+pub use walk::Tasks;
