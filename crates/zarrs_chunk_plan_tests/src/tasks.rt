@@ -5,7 +5,7 @@ use std::process::Abort;
 use std::test::Fail;
 use zarrs_chunk_base::Refusal;
 use zarrs_chunk_tasks::laws::{
-    no_chunk_is_in_two_tasks, the_tasks_are_the_copy, the_walk_gives_the_tasks,
+    no_chunk_is_in_two_tasks, the_tasks_are_the_copy, the_walk_gives_the_tasks, there_are_tasks,
 };
 use zarrs_chunk_tasks::{Task, Tasks, TasksError, tasks, tasks_by_source};
 use zarrs_chunks::RegularChunkGrid;
@@ -136,8 +136,10 @@ fn what_does_not_fit_is_refused(rt: HostRuntime) -> Result<(), Fail> {
 fn the_laws_hold(rt: HostRuntime) -> Result<(), Fail> {
     let (source, target) = two_rows(rt.alloc())?;
     let region = some_of(rt.alloc(), 2, 7)?;
+    let each = edges_of(rt.alloc(), 2)?;
     the_walk_gives_the_tasks(&target.grid);
     the_tasks_are_the_copy(&source.grid, &target.grid, &region);
     no_chunk_is_in_two_tasks(&source.grid, &target.grid);
+    there_are_tasks(&source.grid, &target.grid, &region, &each);
     Ok(())
 }

@@ -1,4 +1,5 @@
 mod GroupBoxes
 mod GroupsAlong
+mod SomeTasks
 mod TaskLaws
 mod WalkedTasks

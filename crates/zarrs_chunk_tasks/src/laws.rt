@@ -6,16 +6,20 @@
 //! | What a walk that `tasks` or `tasks_by_source` returns gives, one after another, are the tasks of the copy | [`the_walk_gives_the_tasks`] |
 //! | Each element of the region is moved by exactly one task, to where it goes; no task moves anything else | [`the_tasks_are_the_copy`] |
 //! | No chunk of the grouped array is in two tasks | [`no_chunk_is_in_two_tasks`] |
+//! | There are tasks of each copy | [`there_are_tasks`] |
 ghost use Rattle.std.specs.Prelude.{ℕ, List, Ok, map};
+ghost use Rattle.std.specs.Int.NonZero.{non_zero_u64_get};
 ghost use Rattle.std.specs.Iterator.{Drains};
 ghost use Rattle.std.specs.List.{AllPairs};
-ghost use Rattle.zarrs_chunk_base.specs.ArraySubset.{Box};
+ghost use Rattle.zarrs_chunk_base.specs.ArraySubset.{Box, IsBox};
 ghost use Rattle.zarrs_chunk_base.specs.Dimension.{array_sizes};
 ghost use Rattle.zarrs_chunk_parts.specs.Plan.{Meets};
+ghost use Rattle.zarrs_chunk_plan.specs.Region.{moved};
 ghost use Rattle.zarrs_chunk_tasks.specs.Tasks.{AreTasks, AreTasksBySource, AreTasksByTarget, AreTheCopy, HasTasks};
 ghost use Rattle.zarrs_chunk_tasks.specs.seen.Tasks.{ArePlanned, AreTasksToCome, CanGive, GivesTask};
 
 use crate::{Task, Tasks};
+use std::num::NonZeroU64;
 use zarrs_chunk_base::ArraySubset;
 use zarrs_chunks::ChunkGridTraits;
 
@@ -61,3 +65,24 @@ pub fn no_chunk_is_in_two_tasks<G: ChunkGridTraits, H: ChunkGridTraits>(source: 
         → AllPairs (λ one other. (chunk : List ℕ) → Meets (G.dimensions source.now) one.source chunk
         → Meets (G.dimensions source.now) other.source chunk → ⊥) tasks }
 {}
+
+/// There are tasks of the copy of each region that lies in both arrays, for each list of chunks a task.
+pub fn there_are_tasks<G: ChunkGridTraits, H: ChunkGridTraits>(
+    source: &G,
+    target: &H,
+    region: &ArraySubset,
+    task_chunks: &[NonZeroU64],
+)
+    ensures by_target { (at : List ℕ) → HasTasks (array_sizes (G.dimensions source.now))
+        (array_sizes (H.dimensions target.now)) region.now at (map non_zero_u64_get task_chunks.now)
+        → IsBox (moved at region.now) → (tasks : List Task)
+        × AreTasksByTarget (H.dimensions target.now) (map non_zero_u64_get task_chunks.now)
+        region.now at tasks }
+    ensures by_source { (at : List ℕ) → HasTasks (array_sizes (G.dimensions source.now))
+        (array_sizes (H.dimensions target.now)) region.now at (map non_zero_u64_get task_chunks.now)
+        → (tasks : List Task)
+        × AreTasksBySource (G.dimensions source.now) (map non_zero_u64_get task_chunks.now)
+        region.now at tasks }
+{
+    region.is_a_box();
+}
