@@ -10,7 +10,7 @@ use zarrs_chunk_tasks::laws::{
 use zarrs_chunk_tasks::{Task, Tasks, TasksError, tasks, tasks_by_source};
 use zarrs_chunks::RegularChunkGrid;
 
-/// Where the elements go in the target: from the element with this number on.
+/// The index in the target that the first element goes to.
 const AT: [u64; 5] = [0, 0, 0, 0, 1];
 
 /// Appends the line of a task: its group, where its boxes begin, and the shape of its buffer.

@@ -1,10 +1,10 @@
--- Groups of neighbouring chunks, and what a group holds of a box of elements. Along each dimension a group joins so many chunks.
+-- Groups of neighbouring chunks, and what a group holds of a box of elements. A group joins k chunks along a dimension.
 -- Source: Zarr V3 core, chunk grids; groups are this library's own.
 use Rattle.std.specs.Prelude.{◌≡◌, ◌↔◌, ℕ, ◌/◌, List, [], ◌∷◌}
 use Rattle.zarrs_chunk_base.specs.ArraySubset.{Box, IsBox, IsInside}
 use Rattle.zarrs_chunk_base.specs.Dimension.{Dimension, Holds}
 
--- Group t joins k neighbouring chunks along a dimension, those of the numbers c for which c / k is t. One of them holds the index i.
+-- Group t joins k neighbouring chunks along a dimension: each chunk c for which c / k is t. One of them holds the index i.
 pub record LiesInGroup (d : Dimension) (k t i : ℕ) : Type 0 where
   pub chunk : ℕ
   pub holds : Holds d chunk i

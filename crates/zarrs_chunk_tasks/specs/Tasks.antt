@@ -15,7 +15,7 @@ use Rattle.zarrs_chunk_tasks.specs.declared.tasks_error.TasksError.TheVariants.{
 -- The chunks of one of the two arrays are grouped, and `elements` is the box of that array that is copied. In the source's array the copy begins at
 -- `first`, in the target's at `at`.
 module _ (ds : List Dimension) (each : List ℕ) (elements : Box) (first at : List ℕ) where
-  -- The task of a group: its buffer is what the group holds. Its two boxes lie as far behind `first` and `at` as the buffer does behind the first element.
+  -- The task of a group: its buffer is what the group holds. Its boxes begin as far after `first` and `at` as the buffer begins after the first element.
   pub record IsTask (group : List ℕ) (task : Task) : Type 0 where
     pub numbers : task.group.items ≡ group
     pub behind : Box
@@ -38,7 +38,7 @@ AreTasksByTarget target each region at = AreTasks target each (moved at region) 
 abbrev pub AreTasksBySource : (source : List Dimension) → (each : List ℕ) → (region : Box) → (at : List ℕ) → List Task → Type 0
 AreTasksBySource source each region at = AreTasks source each region region.start at
 
--- the task moves the element at an index of the source's array to an index of the target's: both are as far behind the first elements of its two boxes
+-- the task moves the element at an index of the source's array to an index of the target's: both are as far after the first elements of its boxes
 abbrev pub Moves : Task → (index to : List ℕ) → Type 0
 Moves task = IsDestination task.source task.target.start
 
@@ -53,7 +53,7 @@ pub record HasTasks (source target : List ℕ) (region : Box) (at each : List �
   pub lengths : length each ≡ length source
   pub can : CanBeMoved source target region at
 
--- The first fault: the list has another length than the source has dimensions; that of the region.
+-- The first fault: the list has another length than the source has dimensions; a fault of the region.
 abbrev pub IsTasksFault : (source target : List ℕ) → Box → (at each : List ℕ) → TasksError → Type 0
 IsTasksFault source target region at each (TaskChunks e) = (length each ≢ length source) × TellsLengths (length each) (length source) e
 IsTasksFault source target region at each (Region e) = (length each ≡ length source) × IsRegionFault source target region at e

@@ -1,8 +1,8 @@
 //! Tasks: a copy from one array to another by way of buffers.
 //!
 //! A task fills a buffer from the source's array and writes it to the target's. Its buffer is what a group of neighbouring chunks holds of the elements that are
-//! copied, so each chunk of the grouped array is in one task. [`tasks`] groups the chunks of the target, [`tasks_by_source`] those of the source.
-//! What a task reads is the plan [`parts`](zarrs_chunk_plan::parts) of its box in the source's array, what it writes that of its box in the target's.
+//! copied, so each chunk of the grouped array is in one task. [`tasks`] groups the target's chunks, [`tasks_by_source`] the source's.
+//! The plan [`parts`](zarrs_chunk_plan::parts) of a task's box in the source's array says what it reads, the plan of its other box what it writes.
 //!
 //! ```text
 //! 4 x 12 elements from chunks [1, 12] to chunks [4, 3], two chunks of the target a task

@@ -15,16 +15,17 @@ use zarrs_chunk_base::{ArraySubset, IncompatibleDimensionalityError, Refusal};
 use zarrs_chunk_plan::moved_box;
 use zarrs_chunks::ChunkGridTraits;
 
-/// The tasks of the copy of a region, by groups of the target's chunks: a box of elements of the source's array goes to the box of its shape that begins at
-/// `at` in the target's array. A group joins `task_chunks` neighbouring chunks along each dimension, those whose numbers divided by it are equal.
+/// Returns the tasks of the copy of a region, by groups of the target's chunks. The region is a box of the source's array; it goes to the box of its shape
+/// that begins at `at` in the target's array. Along each dimension a group joins `task_chunks` neighbouring chunks: if the numbers of two chunks, divided by
+/// `task_chunks`, are equal, they are in one group.
 ///
 /// No chunk of the target is in two tasks. An empty region has no tasks; it lies in an array if its end does.
 ///
 /// It takes the time and the memory of a cover of the target.
 ///
 /// # Errors
-/// The first that applies: `task_chunks`, the region, the target's array, or `at` has another number of dimensions than the source's array; the region
-/// ends past the source's array; it ends past the target's array where it goes. Or out of memory.
+/// The first that applies: `task_chunks`, the region, the target's array, or `at` has another number of dimensions than the source's array. The region
+/// ends past the source's array. It ends past the target's array when it begins at `at`. Or out of memory.
 pub fn tasks<'a, G: ChunkGridTraits, H: ChunkGridTraits>(
     alloc: Global,
     source: &G,
@@ -51,7 +52,7 @@ pub fn tasks<'a, G: ChunkGridTraits, H: ChunkGridTraits>(
     Ok(Tasks::new(alloc, target, task_chunks, moved, first, at)?)
 }
 
-/// The same by groups of the source's chunks: no chunk of the source is in two tasks.
+/// Returns the tasks by groups of the source's chunks: no chunk of the source is in two tasks.
 ///
 /// # Errors
 /// As of [`tasks`].

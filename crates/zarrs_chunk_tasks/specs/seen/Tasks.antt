@@ -29,7 +29,7 @@ module _ {G : Type 0} where
   abbrev pub all_groups : Tasks G → List (List ℕ)
   all_groups walk = all_between walk.groups
 
-  -- the walk is over this grid, so many of its chunks a group, and this box of elements, from here to there
+  -- the walk is over this grid, these numbers of its chunks a group, and this box of elements, from one index to another
   pub record IsAboutTasks (grid : G) (each : List ℕ) (elements : Box) (first at : List ℕ) (walk : Tasks G) : Type 0 where
     pub same_grid : walk.grid.now ≡ grid
     pub same_each : map non_zero_u64_get walk.each.now ≡ each
