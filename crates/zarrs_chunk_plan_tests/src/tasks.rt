@@ -5,7 +5,8 @@ use std::process::Abort;
 use std::test::Fail;
 use zarrs_chunk_base::Refusal;
 use zarrs_chunk_tasks::laws::{
-    no_chunk_is_in_two_tasks, the_tasks_are_the_copy, the_walk_gives_the_tasks, there_are_tasks,
+    a_rechunking_writes_whole_chunks, each_element_goes_by_the_buffer, no_chunk_is_in_two_tasks,
+    the_tasks_are_the_copy, the_walk_gives_the_tasks, there_are_tasks,
 };
 use zarrs_chunk_tasks::{Task, Tasks, TasksError, tasks, tasks_by_source};
 use zarrs_chunks::RegularChunkGrid;
@@ -140,6 +141,8 @@ fn the_laws_hold(rt: HostRuntime) -> Result<(), Fail> {
     the_walk_gives_the_tasks(&target.grid);
     the_tasks_are_the_copy(&source.grid, &target.grid, &region);
     no_chunk_is_in_two_tasks(&source.grid, &target.grid);
+    each_element_goes_by_the_buffer(&source, &target);
+    a_rechunking_writes_whole_chunks(&target);
     there_are_tasks(&source.grid, &target.grid, &region, &each);
     Ok(())
 }

@@ -2,4 +2,5 @@ mod GroupBoxes
 mod GroupsAlong
 mod SomeTasks
 mod TaskLaws
+mod TaskParts
 mod WalkedTasks

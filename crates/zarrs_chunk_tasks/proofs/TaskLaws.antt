@@ -20,7 +20,7 @@ use Rattle.zarrs_chunk_tasks.specs.declared.task.Task.{Task}
 -- ---- groups
 
 -- an index lies in one chunk
-same_chunk : (d : Dimension) → IsChain d → (c e i : ℕ) → Holds d c i → Holds d e i → c ≡ e
+pub same_chunk : (d : Dimension) → IsChain d → (c e i : ℕ) → Holds d c i → Holds d e i → c ≡ e
 same_chunk d chain c e i one other =
     omega (arith, no_later d chain c e i i (omega arith) one other, no_later d chain e c i i (omega arith) other one)
 

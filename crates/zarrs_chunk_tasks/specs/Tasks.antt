@@ -5,7 +5,9 @@ use Rattle.std.specs.List.{AllPairs, AllZip, Contains}
 use Rattle.zarrs_chunk_base.specs.ArraySubset.{Box, IsBox, IsInside}
 use Rattle.zarrs_chunk_base.specs.Dimension.{Dimension}
 use Rattle.zarrs_chunk_base.specs.Refusal.{TellsLengths}
-use Rattle.zarrs_chunks.specs.Walks.{chunks_in}
+use Rattle.zarrs_chunks.specs.Walks.{chunks_in, counted_from}
+use Rattle.zarrs_chunk_parts.specs.Plan.{HasElement}
+use Rattle.zarrs_chunk_parts.specs.declared.part.Part.{Part}
 use Rattle.zarrs_chunk_plan.specs.Region.{CanBeMoved, IsDestination, IsRegionFault, moved, shifted}
 use Rattle.zarrs_chunk_tasks.specs.Groups.{HoldsSomeOf, IsBuffer}
 use Rattle.zarrs_chunk_tasks.specs.declared.task.Task.{Task}
@@ -47,6 +49,19 @@ pub record AreTheCopy (region : Box) (at : List ℕ) (tasks : List Task) : Type 
   pub moved : (index to : List ℕ) → IsDestination region at index to ↔ ((task : Task) × Contains tasks task × Moves task index to)
   pub read_once : AllPairs (λ one other. (index to also : List ℕ) → Moves one index to → Moves other index also → ⊥) tasks
   pub written_once : AllPairs (λ one other. (to index also : List ℕ) → Moves one index to → Moves other also to → ⊥) tasks
+
+-- An element goes by way of a task's buffer: a part that the task reads has it, a part that it writes has it where it goes, and both have it at one place
+-- of the buffer.
+pub record GoesByBuffer (task : Task) (from into : List Part) (index to : List ℕ) : Type 0 where
+  pub read : Part
+  pub among_read : Contains from read
+  pub place : List ℕ
+  pub reads : HasElement task.source read index place
+  pub write : Part
+  pub among_written : Contains into write
+  pub to_place : List ℕ
+  pub writes : HasElement task.target write to to_place
+  pub in_buffer : counted_from read.in_subset.start reads.steps ≡ counted_from write.in_subset.start writes.steps
 
 -- The copy has tasks: there are as many numbers of chunks as dimensions, and the region lies in both arrays.
 pub record HasTasks (source target : List ℕ) (region : Box) (at each : List ℕ) : Type 0 where

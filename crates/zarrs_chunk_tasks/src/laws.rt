@@ -6,21 +6,26 @@
 //! | What a walk that `tasks` or `tasks_by_source` returns gives, one after another, are the tasks of the copy | [`the_walk_gives_the_tasks`] |
 //! | Each element of the region is moved by exactly one task, to where it goes; no task moves anything else | [`the_tasks_are_the_copy`] |
 //! | No chunk of the grouped array is in two tasks | [`no_chunk_is_in_two_tasks`] |
+//! | An element that a task reads is written from the place of the buffer to which it was read | [`each_element_goes_by_the_buffer`] |
+//! | In a rechunking by groups of the target's chunks, each part that a task writes is whole | [`a_rechunking_writes_whole_chunks`] |
 //! | There are tasks of each copy | [`there_are_tasks`] |
-ghost use Rattle.std.specs.Prelude.{ℕ, List, Ok, map};
+ghost use Rattle.std.specs.Prelude.{◌≡◌, ℕ, IsTrue, List, Ok, map};
 ghost use Rattle.std.specs.Int.NonZero.{non_zero_u64_get};
 ghost use Rattle.std.specs.Iterator.{Drains};
-ghost use Rattle.std.specs.List.{AllPairs};
+ghost use Rattle.std.specs.List.{AllPairs, Contains};
 ghost use Rattle.zarrs_chunk_base.specs.ArraySubset.{Box, IsBox};
 ghost use Rattle.zarrs_chunk_base.specs.Dimension.{array_sizes};
-ghost use Rattle.zarrs_chunk_parts.specs.Plan.{Meets};
+ghost use Rattle.zarrs_chunk_parts.specs.Plan.{IsPlan, Meets};
+ghost use Rattle.zarrs_chunk_plan.specs.Rechunking.{array_box};
 ghost use Rattle.zarrs_chunk_plan.specs.Region.{moved};
-ghost use Rattle.zarrs_chunk_tasks.specs.Tasks.{AreTasks, AreTasksBySource, AreTasksByTarget, AreTheCopy, HasTasks};
+ghost use Rattle.zarrs_chunk_tasks.specs.Tasks.{AreTasks, AreTasksBySource, AreTasksByTarget, AreTheCopy, GoesByBuffer, HasTasks, Moves};
 ghost use Rattle.zarrs_chunk_tasks.specs.seen.Tasks.{ArePlanned, AreTasksToCome, CanGive, GivesTask};
 
 use crate::{Task, Tasks};
 use std::num::NonZeroU64;
 use zarrs_chunk_base::ArraySubset;
+use zarrs_chunk_keys::ChunkKeyEncodingTraits;
+use zarrs_chunk_plan::{Part, StoredArray};
 use zarrs_chunks::ChunkGridTraits;
 
 /// What a walk gives up to its end is its tasks to come. These are the tasks of the copy, for a walk that `tasks` or `tasks_by_source` returns: one for
@@ -86,3 +91,31 @@ pub fn there_are_tasks<G: ChunkGridTraits, H: ChunkGridTraits>(
 {
     region.is_a_box();
 }
+
+/// An element that a task moves is read by a part of the plan of the task's box in the source's array, and written by a part of the plan of its box in the
+/// target's array. Both parts have it at one place of the buffer. That there is only one such part of either plan is a law of
+/// [plans](zarrs_chunk_plan::laws::each_element_lies_in_one_part).
+pub fn each_element_goes_by_the_buffer<
+    G: ChunkGridTraits,
+    E: ChunkKeyEncodingTraits,
+    H: ChunkGridTraits,
+    F: ChunkKeyEncodingTraits,
+>(source: &StoredArray<G, E>, target: &StoredArray<H, F>)
+    ensures { (task : Task) (from into : List Part) → IsBox task.source → IsBox task.target
+        → task.source.shape ≡ task.target.shape
+        → IsPlan (G.dimensions source.now.grid) (E.is_key source.now.encoding) task.source from
+        → IsPlan (H.dimensions target.now.grid) (F.is_key target.now.encoding) task.target into
+        → (index to : List ℕ) → Moves task index to → GoesByBuffer task from into index to }
+{}
+
+/// In a rechunking by groups of the target's chunks, each part that a task writes is whole, so no chunk of the target is read.
+pub fn a_rechunking_writes_whole_chunks<H: ChunkGridTraits, F: ChunkKeyEncodingTraits>(
+    target: &StoredArray<H, F>,
+)
+    ensures { (each : List ℕ) (tasks : List Task) → AreTasksByTarget (H.dimensions target.now.grid)
+        each (array_box (H.dimensions target.now.grid))
+        (array_box (H.dimensions target.now.grid)).start tasks
+        → (task : Task) → Contains tasks task → (parts : List Part)
+        → IsPlan (H.dimensions target.now.grid) (F.is_key target.now.encoding) task.target parts
+        → (part : Part) → Contains parts part → IsTrue part.whole }
+{}
