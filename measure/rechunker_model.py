@@ -112,7 +112,9 @@ def rechunker_plan(shape, source, target, max_elements, read_elements=2_500_000,
 def memory_of(plan, target):
     """Returns how many elements a task of a plan holds at most, with the chunk that is being decoded or encoded."""
     written = [*plan.intermediate, target]
-    return max(math.prod(copy.block) + max(math.prod(copy.chunks), math.prod(chunks)) for copy, chunks in zip(plan.copies, written))
+    return max(
+        math.prod(copy.block) + max(math.prod(copy.chunks), math.prod(chunks)) for copy, chunks in zip(plan.copies, written)
+    )  # fmt: skip
 
 
 def has_conflicts(plan, shape, target):
@@ -136,7 +138,8 @@ def main():
             plan = rechunker_plan(*case, most_stages=most_stages)
             reads = [copy.reads for copy in plan.copies]
             decoded = sum(copy.decoded for copy in plan.copies) / math.prod(case[0])
-            print(f"{case}: blocks {[copy.block for copy in plan.copies]}, {sum(reads):,} = {reads} reads, {decoded:.2f} decoded")
+            blocks = [copy.block for copy in plan.copies]
+            print(f"{case}: blocks {blocks}, {sum(reads):,} = {reads} reads, {decoded:.2f} decoded")
 
 
 if __name__ == "__main__":

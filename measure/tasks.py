@@ -89,7 +89,9 @@ class Case:
         self.seconds = time.perf_counter() - start
         self.theirs = self.more_of_theirs = None
         if all(isinstance(edge, int) for edge in [*source, *target]):
-            self.theirs, self.more_of_theirs = (rechunker_plan(shape, source, target, most, most_stages=n) for n in (2, MOST_STAGES))
+            self.theirs, self.more_of_theirs = (
+                rechunker_plan(shape, source, target, most, most_stages=stages) for stages in (2, MOST_STAGES)
+            )  # fmt: skip
             self.with_theirs = [
                 Search(self.sides, memory_of(plan, target)).cheapest_plan() for plan in (self.theirs, self.more_of_theirs)
             ]  # fmt: skip
@@ -105,16 +107,17 @@ class Case:
         print(f"{self.name}: {self.shape} from {short(self.source)} to {short(self.target)}, {self.most:,} elements")
         if self.one:
             ks = [size.k for size in self.one.sizes]
-            row("one stage", self.one.reads, self.one.decoded / self.array, self.one.cost, f"groups of {ks}, {self.kept} sizes kept",
-                f"{self.seconds_of_one:.3f} s", "exact" if self.is_exact else "not exact")  # fmt: skip
-        row("plan", self.reads(), self.decoded(), self.plan.cost, f"{len(self.plan.stages)} stages, {self.seconds:.2f} s, "
-            f"{len(self.search.choices):,} stages were chosen for")  # fmt: skip
+            how = f"groups of {ks}, {self.kept} sizes kept, {self.seconds_of_one:.3f} s, {'exact' if self.is_exact else 'not exact'}"
+            row("one stage", self.one.reads, self.one.decoded / self.array, self.one.cost, how)
+        how = f"{len(self.plan.stages)} stages, {self.seconds:.2f} s, {len(self.search.choices):,} stages were chosen for"
+        row("plan", self.reads(), self.decoded(), self.plan.cost, how)
         before = None
         for number, stage in enumerate(self.plan.stages):
             count, written = self.search.counts(before, stage)
             groups = [size.k for size in stage.choice.sizes]
-            row(f"  stage {number + 1}", stage.choice.reads, stage.choice.decoded / self.array, stage.choice.cost,
-                f"writes {written:,} of {list(stage.chunks or []) or short(self.target)} by {count:,} tasks of {groups}")  # fmt: skip
+            shape = list(stage.chunks or []) or short(self.target)
+            how = f"writes {written:,} of {shape} by {count:,} tasks of {groups}"
+            row(f"  stage {number + 1}", stage.choice.reads, stage.choice.decoded / self.array, stage.choice.cost, how)
             before = stage.chunks
         for name, plan in (("rechunker", self.theirs), ("rechunker, more stages", self.more_of_theirs)):
             if plan:
@@ -123,16 +126,18 @@ class Case:
                 row(name, sum(reads), decoded / self.array, plan.cost, f"blocks {[copy.block for copy in plan.copies]}")
         stages = min(range(MOST_STAGES), key=lambda place: self.least[place]) + 1
         reads = least_reads_by_stages(self.sides, self.most, stages)
-        row("at least", reads, stages, self.least[stages - 1], f"with {stages} stages; the plan costs {self.plan.cost / self.least[stages - 1]:.3f} times as much")  # fmt: skip
+        ratio = self.plan.cost / self.least[stages - 1]
+        row("at least", reads, stages, self.least[stages - 1], f"with {stages} stages; the plan costs {ratio:.3f} times as much")
         print()
 
     def line(self):
         """Returns a line of the table of all, and what is wrong."""
-        cells = [f"{self.name:34}", f"{len(self.plan.stages)}", f"{self.reads():>11,}", f"{self.decoded():5.2f}", f"{in_reads(self.plan.cost):>11,}"]
-        wrong = []
+        cells = [f"{self.name:34}", f"{len(self.plan.stages)}", f"{self.reads():>11,}", f"{self.decoded():5.2f}"]
+        cells, wrong = [*cells, f"{in_reads(self.plan.cost):>11,}"], []
         if self.theirs:
             for which, plan, equal in zip(("", " with more stages"), (self.theirs, self.more_of_theirs), self.with_theirs):
-                reads, decoded = sum(copy.reads for copy in plan.copies), sum(copy.decoded for copy in plan.copies) / self.array
+                reads = sum(copy.reads for copy in plan.copies)
+                decoded = sum(copy.decoded for copy in plan.copies) / self.array
                 cells += [f"{reads:>11,}", f"{decoded:5.2f}", f"{self.plan.cost / plan.cost:5.3f}", f"{equal.cost / plan.cost:5.3f}"]
                 cells[-1] += "*" if has_conflicts(plan, self.shape, self.target) else " "
                 if self.plan.cost * 100 > plan.cost * 102:
@@ -176,7 +181,8 @@ def main():
         if number < len(TARGETS):
             reads, decoded = TARGETS[number]
             if case.reads() > reads or case.decoded() > decoded:
-                wrong.append(f"{case.name}: {case.reads():,} reads and {case.decoded():.3f} decoded, wanted {reads:,} and {decoded}")
+                found = f"{case.reads():,} reads and {case.decoded():.3f} decoded"
+                wrong.append(f"{case.name}: {found}, where {reads:,} and {decoded} are the most")
     for text in wrong:
         print(text)
     sys.exit(1 if wrong else 0)

@@ -21,10 +21,11 @@ from .chains import longest_chunk
 # What one read is worth in decoded elements.
 READ_ELEMENTS = 2_500_000
 
-# Up to which number all sizes of groups along a dimension are tried, and how many choices of them at most.
+# Up to which number all sizes of groups along a dimension are tried. How many choices are gone through at most, without those
+# along the last dimension.
 MOST_SIZES, MOST_CHOICES = 2**16, 2**22
 # How fine the numbers of pieces are that chunks are cut into: all numbers, 1, 2, 4, 8 .., and one piece or one a chunk.
-ALL, DOUBLING, ENDS = 64, 0, -64
+ALL, DOUBLING, ENDS = 20, 0, -64
 
 # A size of groups along one dimension: how many neighbouring chunks of the target a task takes, the elements of the longest
 # group, how many chunks of the source all groups meet, and the elements of these chunks, whole.
@@ -82,15 +83,15 @@ def chunks_a_piece(chunks, fineness):
         pieces = min(max(fewer, next_pieces(pieces, fineness)), chunks)
 
 
-def tried(side):
+def tried(side, all_to):
     """Yields the sizes of groups that are tried, smallest first: all up to a number, and then those that double the number of
     groups."""
     most = side.most()
-    yield from range(1, min(most, MOST_SIZES) + 1)
-    yield from (k for k in reversed(list(chunks_a_piece(most, DOUBLING))) if k > MOST_SIZES)
+    yield from range(1, min(most, all_to) + 1)
+    yield from (k for k in reversed(list(chunks_a_piece(most, DOUBLING))) if k > all_to)
 
 
-def unbeaten(side):
+def unbeaten(side, all_to=MOST_SIZES):
     """Returns the sizes of groups that are kept, smallest group first: each size that no other size that is tried beats.
 
     Between regular chains the walk ends with the first size by which each chunk of the source is read once: no size reads or
@@ -98,7 +99,7 @@ def unbeaten(side):
     """
     first, end = side.sources()
     kept = []
-    for k in tried(side):
+    for k in tried(side, all_to):
         size = size_of(side, k)
         if side.is_regular:
             if not kept or size.reads < kept[-1].reads:
@@ -133,11 +134,11 @@ def cost_of(reads, decoded, read_elements):
 
 
 def cheapest(lists, most, read_elements):
-    """Returns the cheapest choice of one size of each list whose groups have at most so many elements, or None.
+    """Returns the cheapest choice of one size of each list whose groups have at most so many elements, or None. Of choices
+    that cost the same it is the first one.
 
-    All choices are gone through, each list from the largest size on. Sizes are left out where the choices with them can't be
-    cheaper than the cheapest so far: what is chosen reads and decodes so much with the least of the lists that follow. In a
-    list that falls, all smaller sizes are left out with such a one; and in the last list with the first that fits.
+    All choices that fit are gone through, but in the last list: if that one falls, its largest size that fits is as cheap as
+    any there.
     """
     if any(sizes[-1].largest == 0 for sizes in lists):
         # Where the range has no element there is no task, and any choice is right.
@@ -145,28 +146,19 @@ def cheapest(lists, most, read_elements):
     if most < 1:
         return None
     best = None
-    falling = [falls(sizes) for sizes in lists]
-    rest = [(1, 1)]
-    for sizes in reversed(lists):
-        reads, decoded = rest[-1]
-        rest.append((reads * min(size.reads for size in sizes), decoded * min(size.decoded for size in sizes)))
-    rest.reverse()
+    last_falls = bool(lists) and falls(lists[-1])
 
     def go(place, chosen, largest, reads, decoded):
         nonlocal best
         if place == len(lists):
-            best = Choice(cost_of(reads, decoded, read_elements), chosen, largest, reads, decoded)
+            cost = cost_of(reads, decoded, read_elements)
+            if best is None or cost < best.cost:
+                best = Choice(cost, chosen, largest, reads, decoded)
             return
-        sizes, least_reads, least_decoded = lists[place], *rest[place + 1]
-        # Those that fit come first.
-        fitting = bisect.bisect_right(sizes, most // largest, key=lambda size: size.largest)
-        for size in reversed(sizes[:fitting]):
-            all_reads, all_decoded = reads * size.reads, decoded * size.decoded
-            least = cost_of(all_reads * least_reads, all_decoded * least_decoded, read_elements)
-            if best is None or least < best.cost:
-                go(place + 1, (*chosen, size), largest * size.largest, all_reads, all_decoded)
-            elif falling[place]:
-                break
+        fitting = bisect.bisect_right(lists[place], most // largest, key=lambda size: size.largest)
+        first = max(fitting - 1, 0) if last_falls and place == len(lists) - 1 else 0
+        for size in lists[place][first:fitting]:
+            go(place + 1, (*chosen, size), largest * size.largest, reads * size.reads, decoded * size.decoded)
 
     go(0, (), 1, 1, 1)
     return best

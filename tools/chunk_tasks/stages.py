@@ -4,7 +4,8 @@ import itertools
 import math
 
 from .chains import Chain, Side, longest_chunk, longest_part, met
-from .one_stage import ALL, DOUBLING, ENDS, MOST_CHOICES, READ_ELEMENTS, cheapest, chunks_a_piece, cost_of, thinned, unbeaten
+from .one_stage import ALL, DOUBLING, ENDS, MOST_CHOICES, MOST_SIZES, READ_ELEMENTS
+from .one_stage import cheapest, chunks_a_piece, cost_of, thinned, unbeaten
 
 # The chunk shape that a stage writes (None: the target's), and the choice of its tasks.
 Stage = collections.namedtuple("Stage", "chunks choice")
@@ -15,6 +16,8 @@ MOST_STAGES = 4
 MOST_SHAPES, MOST_SHAPES_AT_FIRST = 2**17, 2**11
 # How many edges one edge is changed to, at most.
 MOST_EDGES = 2**10
+# Up to which number all sizes of groups are tried where a stage reads or writes an intermediate array.
+MOST_SIZES_BETWEEN = 2**12
 
 def edges_tried(side, fineness, most):
     """Returns the edges that are tried along a dimension, shortest first; or None if there are more than some number.
@@ -74,7 +77,7 @@ class Search:
         the source's or the target's chain."""
         key = place, before, after
         if key not in self.kept:
-            self.kept[key] = unbeaten(self.side(*key))
+            self.kept[key] = unbeaten(self.side(*key), MOST_SIZES if before is after is None else MOST_SIZES_BETWEEN)
         return self.kept[key]
 
     def side(self, place, before, after):
@@ -171,12 +174,12 @@ class Search:
         """Yields the shapes of the cheapest plan of three stages, and then of four, of those whose arrays are cut into 1, 2, 4,
         8 .. pieces along each dimension, or into still fewer numbers of pieces.
 
-        Nothing is yielded for a number of stages if the plan costs as much as another plan and a sixteenth, or more. The
+        Nothing is yielded for a number of stages if the plan costs as much as another plan and an eighth, or more. The
         cheapest way to each shape is found from the cheapest ways to all shapes with a stage less.
         """
         tried = all_tried(self.sides, MOST_SHAPES_AT_FIRST, DOUBLING)
         shapes = list(itertools.islice(itertools.product(*tried), MOST_SHAPES_AT_FIRST))
-        limit = best.cost + best.cost // 16 if best else None
+        limit = best.cost + best.cost // 8 if best else None
         # The way to each shape: its cost, and its shapes.
         ways = {shape: (choice.cost, [shape]) for shape in shapes if (choice := self.stage(None, shape))}
         lasts = {shape: choice.cost for shape in shapes if (choice := self.stage(shape, None))}
