@@ -18,8 +18,7 @@ The rules, in the order in which a plan is made, for regular chunks and a bound 
 
 What is uncertain:
 
-- The library wasn't run, and its code wasn't at hand. The numbers for the three cases below are those that this project has
-  had for rechunker from other readings of its description.
+- The library wasn't run, and its code wasn't at hand.
 - Whether the limit of rule 2 is the edge of the block that is written or that of the target's chunk. Both are modelled, and
   the cheaper plan is taken.
 - Whether a task of rule 5 goes from one intermediate array to the next, as here, or by way of one more array. The first is
