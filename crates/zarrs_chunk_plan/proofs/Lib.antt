@@ -4,9 +4,11 @@ pub mod Clipped
 mod Common
 pub mod Copied
 pub mod HeldBoxes
+pub mod MetChunks
 pub mod MovedBoxes
 pub mod OneConfiguration
 pub mod Plans
+pub mod Products
 pub mod Rechunkings
 pub mod SameBoxes
 pub mod ShareLists

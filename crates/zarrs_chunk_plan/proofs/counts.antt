@@ -4,10 +4,8 @@ pub mod CountedParts
 pub mod CountsTold
 pub mod Divisors
 pub mod HeldRanges
-pub mod MetChunks
 pub mod MetCovers
 pub mod OneDimension
-pub mod Products
 pub mod RegularCounts
 pub mod RegularDimensions
 pub mod Written

@@ -14,7 +14,7 @@ use Rattle.zarrs_chunk_plan.proofs.copy.CopyLists.{copy_of}
 use Rattle.zarrs_chunk_plan.proofs.counts.MetCovers.{as_many_counters, met_of_cover}
 use Rattle.zarrs_chunk_plan.proofs.MovedBoxes.{can_stay, within_below}
 use Rattle.zarrs_chunk_plan.proofs.Plans.{all_of_each, chunk_of, not_empty, takes}
-use Rattle.zarrs_chunk_plan.proofs.counts.Products.{met_by_all, sum_of_products}
+use Rattle.zarrs_chunk_plan.proofs.Products.{met_by_all, sum_of_products}
 use Rattle.zarrs_chunk_plan.proofs.Rechunkings.{at_home}
 use Rattle.zarrs_chunk_plan.proofs.SomePlan.{is_cover_of}
 use Rattle.zarrs_chunk_plan.proofs.copy.Regions.{is_copy_of, moves_only, moves_region, read_is_box, some_copy}

@@ -5,7 +5,7 @@ use Rattle.zarrs_chunk_plan.proofs.Common.{within_lengths, length_values, AreBel
 use Rattle.zarrs_chunk_plan.proofs.Common.{met_by, met_by_range, met_in}
 use Rattle.zarrs_chunk_parts.specs.Plan.{AreShared}
 use Rattle.zarrs_chunk_plan.specs.seen.Sources.{AreTaking, taken_sizes, taken_starts}
-use Rattle.zarrs_chunk_plan.proofs.counts.MetChunks.{cover_sizes, met_along_each, shares_met}
+use Rattle.zarrs_chunk_plan.proofs.MetChunks.{cover_sizes, met_along_each, shares_met}
 use Rattle.zarrs_chunk_plan.proofs.SharedBoxes.{as_many, sizes_are, starts_are}
 use Rattle.zarrs_chunk_plan.proofs.TakenBoxes.{meets_take}
 use Rattle.zarrs_chunk_plan.proofs.MovedBoxes.{within_long, within_starts}

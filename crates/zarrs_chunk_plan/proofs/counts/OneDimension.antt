@@ -4,7 +4,7 @@ use Rattle.zarrs_chunk_plan.proofs.Common.{AllByRecursion, ends, Dimension, Hold
 use Rattle.zarrs_chunk_plan.proofs.Common.{AreRanges, TakesSome, counters_from, met, met_along, met_by_range, met_in, taken, taken_from}
 use Rattle.zarrs_chunk_plan.specs.declared.counts.sources.Side.{Side}
 use Rattle.zarrs_chunk_plan.specs.seen.Sources.{IsSide, OfSide}
-use Rattle.zarrs_chunk_plan.proofs.counts.MetChunks.{met_at_most, met_is}
+use Rattle.zarrs_chunk_plan.proofs.MetChunks.{met_at_most, met_is}
 use Rattle.zarrs_chunk_plan.proofs.counts.Written.{RangesTake, take_long}
 
 -- ---- the dimension of a number, which has a property

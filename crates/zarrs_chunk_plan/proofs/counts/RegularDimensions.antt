@@ -8,7 +8,7 @@ use Rattle.std.proofs.lemmas.List.Sums.{sum_by_push}
 use Rattle.zarrs_chunk_axes.specs.Along.{IsRegular}
 use Rattle.zarrs_chunk_plan.specs.seen.RegularCounts.{meeting}
 use Rattle.zarrs_chunk_plan.specs.seen.Sources.{RangeTakes}
-use Rattle.zarrs_chunk_plan.proofs.counts.MetChunks.{met_is}
+use Rattle.zarrs_chunk_plan.proofs.MetChunks.{met_is}
 use Rattle.zarrs_chunk_plan.proofs.counts.RegularCounts.{fold_max, fold_max_push, left_of}
 use Rattle.zarrs_chunk_plan.proofs.counts.Written.{sum_fits, sum_more}
 

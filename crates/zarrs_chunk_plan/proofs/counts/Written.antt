@@ -5,7 +5,7 @@ use Rattle.zarrs_chunk_plan.proofs.Common.{TakesSome, counters_from, met_along, 
 use Rattle.std.proofs.lemmas.List.FromFn.{map-range_with_len_more}
 use Rattle.std.proofs.lemmas.List.Sums.{sum_by_push}
 use Rattle.zarrs_chunk_plan.specs.seen.Sources.{RangeTakes}
-use Rattle.zarrs_chunk_plan.proofs.counts.MetChunks.{met_at_most}
+use Rattle.zarrs_chunk_plan.proofs.MetChunks.{met_at_most}
 use Rattle.zarrs_chunk_plan.proofs.TakenBoxes.{AllTakeSome}
 use Rattle.zarrs_chunk_plan.proofs.counts.RegularCounts.{fold_max_push}
 

@@ -3,7 +3,7 @@ use Rattle.zarrs_chunk_plan.proofs.Common.{arith, true≢false, map-append, take
 use Rattle.zarrs_chunk_plan.proofs.Common.{met_in}
 use Rattle.zarrs_chunk_plan.proofs.counts.BoxCounts.{product_of_none}
 use Rattle.zarrs_chunk_plan.proofs.counts.MetCovers.{as_many_counters, as_many_starts, moved_long, ranges_along, row_along}
-use Rattle.zarrs_chunk_plan.proofs.counts.Products.{greatest_of_products, met_by_all, of_none, sum_of_products}
+use Rattle.zarrs_chunk_plan.proofs.Products.{greatest_of_products, met_by_all, of_none, sum_of_products}
 use Rattle.zarrs_chunk_plan.proofs.counts.Written.{tables_long}
 use Rattle.zarrs_chunk_plan.proofs.counts.sources.sources_along_each.Goals as goal
 
