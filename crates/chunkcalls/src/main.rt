@@ -38,10 +38,17 @@ Ends with the status 0, or with 1 where reading or writing failed or memory ran
 out, which standard error tells.";
 
 fn main(rt: HostRuntime) -> ExitCode {
-    let mut errors = rt.stderr();
+    let mut errors = Watched::new(rt.stderr());
     let asked = read_words(&rt);
     let mut writer = Watched::new(rt.stdout());
-    if let Some(status) = answer_words(asked, "chunkcalls", HELP, &mut writer, &mut errors) {
+    if let Some(status) = answer_words(
+        rt.alloc(),
+        asked,
+        "chunkcalls",
+        HELP,
+        &mut writer,
+        &mut errors,
+    ) {
         return ExitCode::from(status);
     }
     let mut reader = Watched::new(rt.stdin());

@@ -68,10 +68,17 @@ bytes of an uncompressed chunk are wanted.
 Ends with the status 0, or with 1 after a fault, which standard error tells.";
 
 fn main(rt: HostRuntime) -> ExitCode {
-    let mut errors = rt.stderr();
+    let mut errors = Watched::new(rt.stderr());
     let asked = read_words(&rt);
     let mut writer = Watched::new(rt.stdout());
-    if let Some(status) = answer_words(asked, "chunkplan", HELP, &mut writer, &mut errors) {
+    if let Some(status) = answer_words(
+        rt.alloc(),
+        asked,
+        "chunkplan",
+        HELP,
+        &mut writer,
+        &mut errors,
+    ) {
         return ExitCode::from(status);
     }
     let mut reader = Watched::new(rt.stdin());

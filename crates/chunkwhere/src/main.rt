@@ -14,5 +14,6 @@ use std::process::ExitCode;
 fn main(rt: HostRuntime) -> ExitCode {
     let mut reader = Watched::new(rt.stdin());
     let mut writer = Watched::new(rt.stdout());
-    ExitCode::from(run_to_status(rt.alloc(), &mut reader, &mut writer, &mut rt.stderr()))
+    let mut errors = Watched::new(rt.stderr());
+    ExitCode::from(run_to_status(rt.alloc(), &mut reader, &mut writer, &mut errors))
 }

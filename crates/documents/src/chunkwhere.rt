@@ -4,9 +4,9 @@
 //! |---|---|
 //! | `document`, `answer` | the two steps between reading and writing: understand, answer |
 //! | `run_fault` | why a run stops |
-ghost use Rattle.std.specs.Prelude.{◌≡◌, ◌≤◌, false, IfSome, MatchResult, OnOk, string_bytes};
-ghost use Rattle.std.specs.Io.KnownBytes.{Keeps};
-ghost use Rattle.streams.specs.Watched.{watched, has_failed};
+ghost use Rattle.std.specs.Prelude.{◌≡◌, ◌≤◌, false, IfSome, MatchResult, OnErr, OnOk, codes, string_bytes, true};
+ghost use Rattle.streams.specs.Told.{TellsError};
+ghost use Rattle.streams.specs.Watched.{watched, has_failed, is_flushed};
 ghost use Rattle.documents.specs.Reading.{IsReadOr};
 ghost use Rattle.documents.specs.chunkwhere.Run.{RunEndsWith, RunLeaves, text_of};
 ghost use Rattle.documents.specs.declared.chunkwhere.run_fault.RunFault.TheVariants.{Memory};
@@ -29,7 +29,7 @@ pub fn run_to_status<R: Read, W: Write, E: Write>(
     alloc: Global,
     reader: &mut Watched<R>,
     writer: &mut Watched<W>,
-    errors: &mut E,
+    errors: &mut Watched<E>,
 ) -> u8
     ensures outcome { IfSome (R.remaining (watched reader.old)) (λ input.
         IfSome (W.contents (watched writer.old)) (λ held.
@@ -40,11 +40,15 @@ pub fn run_to_status<R: Read, W: Write, E: Write>(
           holds = W.contents (watched writer.new);
           write_failed = has_failed writer.new;
         }))) }
-    ensures silent { result ≡ 0 → Keeps (E.contents errors.old) (E.contents errors.new) }
+    ensures flushed { result ≡ 0 → is_flushed writer.new ≡ true }
+    ensures silent { result ≡ 0 → errors.new ≡ errors.old }
+    ensures told { result ≡ 1 → IfSome (E.contents (watched errors.old)) (λ held.
+        TellsError (codes "chunkwhere") held (E.contents (watched errors.new))
+        (has_failed errors.old) (has_failed errors.new)) }
     ensures zero_or_one { result ≤ 1 }
 {
     let outcome = run(alloc, reader, writer);
-    finish(&outcome, errors)
+    finish(alloc, &outcome, errors)
 }
 
 /// Reads a document to its end and writes where the elements of its `indices` are stored: a line
@@ -62,7 +66,7 @@ pub fn run<R: Read, W: Write>(
     reader: &mut Watched<R>,
     writer: &mut Watched<W>,
 ) -> Result<(), RunFault>
-    ensures { IfSome (R.remaining (watched reader.old))
+    ensures leaves { IfSome (R.remaining (watched reader.old))
         (λ input. IfSome (W.contents (watched writer.old)) (λ held.
         has_failed reader.old ≡ false → has_failed writer.old ≡ false
         → RunLeaves input held result (record {
@@ -71,6 +75,7 @@ pub fn run<R: Read, W: Write>(
           holds = W.contents (watched writer.new);
           write_failed = has_failed writer.new;
         }))) }
+    ensures flushed { OnOk result (is_flushed writer.new ≡ true) }
 {
     let input = read_to_end(alloc, reader)?;
     let text = answer_input(alloc, input)?;
@@ -87,11 +92,18 @@ fn answer_input(alloc: Global, input: Vec<u8>) -> Result<String, RunFault>
     answer(alloc, document)
 }
 
-/// Tells a run's fault in one line, if it had one, and answers the status to end with: 0, or 1
-/// after a fault. That the line can't be written changes nothing.
-pub fn finish<W: Write>(outcome: &Result<(), RunFault>, errors: &mut W) -> u8
+/// Writes a run's error in one line, if the run had one, and returns the status to end with: 0, or 1
+/// after an error. If the line can't be written, the status is the same.
+pub fn finish<W: Write>(
+    alloc: Global,
+    outcome: &Result<(), RunFault>,
+    errors: &mut Watched<W>,
+) -> u8
     ensures status { MatchResult outcome.now (λ _. result ≡ 0) (λ _. result ≡ 1) }
-    ensures silent { OnOk outcome.now (Keeps (W.contents errors.old) (W.contents errors.new)) }
+    ensures silent { OnOk outcome.now (errors.new ≡ errors.old) }
+    ensures told { OnErr outcome.now (IfSome (W.contents (watched errors.old)) (λ held.
+        TellsError (codes "chunkwhere") held (W.contents (watched errors.new))
+        (has_failed errors.old) (has_failed errors.new))) }
 {
-    streams::finish("chunkwhere", outcome, errors)
+    streams::finish(alloc, "chunkwhere", outcome, errors)
 }

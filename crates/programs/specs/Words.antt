@@ -3,6 +3,7 @@
 use Rattle.std.specs.Prelude.{◌≡◌, ◌⊎◌, ℕ, Bool, true, List, ◌++◌, Option, Some, None, Result, Ok, Err, bytes_eq, codes, cond}
 use Rattle.std.specs.declared.env.FillError.{FillError}
 use Rattle.std.specs.declared.env.FillError.TheVariants.{NotPresent}
+use Rattle.streams.specs.Told.{HasBegunText}
 use Rattle.programs.specs.declared.words.Asked.{Asked}
 use Rattle.programs.specs.declared.words.Asked.TheVariants.{Help, Run, Unknown, Version}
 
@@ -15,10 +16,6 @@ asked_by _ _ = Unknown
 -- the version of this library and of its programs
 abbrev pub version : List ℕ
 version = codes "0.1.0"
-
--- a beginning of a text was written behind what the writer held
-abbrev pub HasBegunText : (text held : List ℕ) → (holds : Option (List ℕ)) → Type 0
-HasBegunText text held holds = (written : List ℕ) × (rest : List ℕ) × (text ≡ written ++ rest) × (holds ≡ Some (held ++ written))
 
 -- The status is 0, and a text and a line feed were written behind what the writer held. Or the status is 1, a write has failed, and a beginning of them
 -- was written.

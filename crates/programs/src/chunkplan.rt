@@ -20,21 +20,21 @@
 //! | `missing` | what is left of a plan beside keys |
 //! | `product` | products of numbers, in decimal digits |
 //! | `run_fault` | why a run stops |
-ghost use Rattle.std.specs.Prelude.{◌≡◌, ◌≤◌, ◌⊎◌, [], ℕ, false, IfOk, IfSome, List, MatchResult, Err, OnOk, Some};
-ghost use Rattle.std.specs.Io.KnownBytes.{Keeps};
-ghost use Rattle.streams.specs.Watched.{has_failed, watched};
+ghost use Rattle.std.specs.Prelude.{◌≡◌, ◌≤◌, ◌⊎◌, [], ℕ, false, IfErr, IfOk, IfSome, List, MatchResult, Err, OnErr, OnOk, Some, codes, true};
+ghost use Rattle.streams.specs.Told.{TellsError};
+ghost use Rattle.streams.specs.Watched.{has_failed, is_flushed, watched};
 ghost use Rattle.documents.specs.Reading.{IsReadOr};
 ghost use Rattle.programs.specs.chunkplan.Document.{document_in, document_of};
 ghost use Rattle.programs.specs.chunkplan.Keys.{HasKeysBehind, first_line};
 ghost use Rattle.programs.specs.chunkplan.Planned.{IsPlanOf, IsWholeFault, text_of_line, whole_in};
 ghost use Rattle.streams.specs.seen.Lines.{left};
-ghost use Rattle.programs.specs.chunkplan.Run.{RunEndsWith, RunLeaves};
+ghost use Rattle.programs.specs.chunkplan.Run.{FailsAfterDocument, RunEndsWith, RunLeaves};
 ghost use Rattle.programs.specs.chunkplan.seen.Reads.{ReadFailsAfter};
 ghost use Rattle.programs.specs.chunkplan.seen.Steps.{InputStepLeaves, Leaves, ReadLeaves};
 ghost use Rattle.programs.specs.chunkplan.RunFault.{is_not_json};
-ghost use Rattle.programs.specs.declared.chunkplan.run_fault.RunFault.TheVariants.{Memory};
+ghost use Rattle.programs.specs.declared.chunkplan.run_fault.RunFault.TheVariants.{Memory, Read as ReadFailed};
 ghost use Rattle.streams.specs.Streams.{streams_of};
-ghost use Rattle.streams.specs.seen.Sent.{HoldsAll, written};
+ghost use Rattle.streams.specs.seen.Sent.{HoldsAll, watched_in, written};
 
 mod between;
 mod copying;
@@ -63,7 +63,7 @@ use plan::write_plan;
 pub use run_fault::RunFault;
 use std::alloc::{AllocError, Global};
 use std::io::{Read, Write};
-use streams::{Escaped, Lines};
+use streams::Lines;
 pub use streams::{Sink, Watched};
 
 /// Runs the program, tells its fault in one line, if it had one, and answers the status to end with:
@@ -72,18 +72,22 @@ pub fn run_to_status<R: Read, W: Write, E: Write>(
     alloc: Global,
     reader: &mut Watched<R>,
     sink: &mut Sink<W>,
-    errors: &mut E,
+    errors: &mut Watched<E>,
 ) -> u8
     ensures outcome { IfSome (R.remaining (watched reader.old)) (λ input. (held : List ℕ)
         → HoldsAll held (written W.contents sink.old)
         → has_failed reader.old ≡ false → (written W.contents sink.old).failed ≡ false
         → RunEndsWith input held result
         (streams_of R.remaining W.contents reader.new sink.new)) }
-    ensures silent { result ≡ 0 → Keeps (E.contents errors.old) (E.contents errors.new) }
+    ensures flushed { result ≡ 0 → is_flushed (watched_in sink.new) ≡ true }
+    ensures silent { result ≡ 0 → errors.new ≡ errors.old }
+    ensures told { result ≡ 1 → IfSome (E.contents (watched errors.old)) (λ held.
+        TellsError (codes "chunkplan") held (E.contents (watched errors.new))
+        (has_failed errors.old) (has_failed errors.new)) }
     ensures zero_or_one { result ≤ 1 }
 {
     let outcome = run(alloc, reader, sink);
-    finish(&outcome, errors)
+    finish(alloc, &outcome, errors)
 }
 
 /// Reads a document to its end, and writes the plan that it asks for, line by line as the lines are made. Where `keys` is true in a document that is
@@ -102,10 +106,11 @@ pub fn run<R: Read, W: Write>(
     reader: &mut Watched<R>,
     sink: &mut Sink<W>,
 ) -> Result<(), RunFault>
-    ensures { IfSome (R.remaining (watched reader.old)) (λ input. (held : List ℕ)
+    ensures leaves { IfSome (R.remaining (watched reader.old)) (λ input. (held : List ℕ)
         → HoldsAll held (written W.contents sink.old)
         → has_failed reader.old ≡ false → (written W.contents sink.old).failed ≡ false
         → RunLeaves input held result (streams_of R.remaining W.contents reader.new sink.new)) }
+    ensures flushed { OnOk result (is_flushed (watched_in sink.new) ≡ true) }
 {
     answer_input(alloc, reader, sink)?;
     sink.flush()?;
@@ -118,9 +123,13 @@ fn answer_input<R: Read, W: Write>(
     reader: &mut Watched<R>,
     sink: &mut Sink<W>,
 ) -> Result<(), RunFault>
-    ensures { IfSome (R.remaining (watched reader.old)) (λ input. has_failed reader.old ≡ false
+    ensures leaves { IfSome (R.remaining (watched reader.old)) (λ input.
+        has_failed reader.old ≡ false
         → InputStepLeaves input result (has_failed reader.new) (R.remaining (watched reader.new))
         (written W.contents sink.old) (written W.contents sink.new)) }
+    ensures read { IfErr result (λ fault. fault ≡ ReadFailed
+        → IfSome (R.remaining (watched reader.old))
+        (λ input. FailsAfterDocument input (R.remaining (watched reader.new)))) }
 {
     let mut lines = Lines::new(alloc);
     let mut input = Vec::new(alloc);
@@ -206,15 +215,18 @@ fn is_not_json(fault: &RunFault) -> bool
     matches!(fault, RunFault::NotJson)
 }
 
-/// Tells a run's fault in one line, if it had one, and answers the status to end with: 0, or 1
-/// after a fault. That the line can't be written changes nothing.
-pub fn finish<W: Write>(outcome: &Result<(), RunFault>, errors: &mut W) -> u8
+/// Writes a run's error in one line, if the run had one, and returns the status to end with: 0, or 1
+/// after an error. If the line can't be written, the status is the same.
+pub fn finish<W: Write>(
+    alloc: Global,
+    outcome: &Result<(), RunFault>,
+    errors: &mut Watched<W>,
+) -> u8
     ensures status { MatchResult outcome.now (λ _. result ≡ 0) (λ _. result ≡ 1) }
-    ensures silent { OnOk outcome.now (Keeps (W.contents errors.old) (W.contents errors.new)) }
+    ensures silent { OnOk outcome.now (errors.new ≡ errors.old) }
+    ensures told { OnErr outcome.now (IfSome (W.contents (watched errors.old)) (λ held.
+        TellsError (codes "chunkplan") held (W.contents (watched errors.new))
+        (has_failed errors.old) (has_failed errors.new))) }
 {
-    let outcome = match outcome {
-        Ok(()) => Ok(()),
-        Err(fault) => Err(Escaped(fault)),
-    };
-    streams::finish("chunkplan", &outcome, errors)
+    streams::finish(alloc, "chunkplan", outcome, errors)
 }

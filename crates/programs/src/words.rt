@@ -1,11 +1,13 @@
 //! The words of a program's command line.
-ghost use Rattle.std.specs.Prelude.{◌≡◌, ◌++◌, ◌≤◌, IfErr, IfSome, OnErr, OnOk, Some, codes, true};
-ghost use Rattle.std.specs.Io.KnownBytes.{Keeps};
+ghost use Rattle.std.specs.Prelude.{◌≡◌, ◌++◌, ◌≤◌, IfErr, IfSome, None, OnErr, OnOk, Some, codes, true};
 ghost use Rattle.std.specs.Result.{result_map_both};
-ghost use Rattle.streams.specs.Watched.{has_failed, watched};
-ghost use Rattle.programs.specs.Words.{AnswersWords, HasBegunText, asked_by};
+ghost use Rattle.streams.specs.Told.{HasBegunText, TellsError};
+ghost use Rattle.streams.specs.Watched.{has_failed, is_flushed, watched};
+ghost use Rattle.streams.specs.declared.stream_fault.StreamFault.TheVariants.{Write as WriteFailed};
+ghost use Rattle.programs.specs.Words.{AnswersWords, asked_by};
 ghost use Rattle.programs.specs.declared.words.WordsFault.TheVariants.{Output};
 
+use std::alloc::Global;
 use std::env::{Env, FillError};
 use std::io::Write;
 use streams::{StreamFault, Watched, finish, write_all};
@@ -76,16 +78,24 @@ fn asked_by(first: Result<&[u8], FillError>, alone: bool) -> Asked
 /// Answers what the words of a command line ask for, and gives the status to end with; `None` where the program is to run. `--help` is answered by the
 /// text that is given, `--version` by the version. Any other word is a fault, which is told in one line. The status is 0, or 1 after a fault.
 pub fn answer_words<W: Write, E: Write>(
+    alloc: Global,
     asked: Asked,
     program: &str,
     help: &str,
     writer: &mut Watched<W>,
-    errors: &mut E,
+    errors: &mut Watched<E>,
 ) -> Option<u8>
     ensures answered { IfSome (W.contents (watched writer.old)) (λ held.
         AnswersWords asked help.now result held (W.contents (watched writer.new))
         (has_failed writer.new)) }
-    ensures silent { result ≡ Some 0 → Keeps (E.contents errors.old) (E.contents errors.new) }
+    ensures unfailed { result ≡ Some 0 → has_failed writer.new ≡ has_failed writer.old }
+    ensures flushed { result ≡ Some 0 → is_flushed writer.new ≡ true }
+    ensures silent { result ≡ Some 0 → errors.new ≡ errors.old }
+    ensures told { result ≡ Some 1 → IfSome (E.contents (watched errors.old)) (λ held.
+        TellsError program.now held (E.contents (watched errors.new))
+        (has_failed errors.old) (has_failed errors.new)) }
+    ensures none_written { result ≡ None → writer.new ≡ writer.old }
+    ensures none_told { result ≡ None → errors.new ≡ errors.old }
     ensures zero_or_one { IfSome result (λ status. status ≤ 1) }
 {
     let outcome = match asked {
@@ -94,7 +104,7 @@ pub fn answer_words<W: Write, E: Write>(
         Asked::Version => write_line(writer, VERSION),
         Asked::Unknown => Err(WordsFault::Unknown),
     };
-    Some(finish(program, &outcome, errors))
+    Some(finish(alloc, program, &outcome, errors))
 }
 
 /// Writes a text and a line feed, and flushes.
@@ -104,9 +114,12 @@ pub fn answer_words<W: Write, E: Write>(
 fn write_line<W: Write>(writer: &mut Watched<W>, text: &str) -> Result<(), WordsFault>
     ensures written { OnOk result (IfSome (W.contents (watched writer.old)) (λ held.
         W.contents (watched writer.new) ≡ Some (held ++ (text.now ++ codes "\n")))) }
+    ensures unfailed { OnOk result (has_failed writer.new ≡ has_failed writer.old) }
+    ensures flushed { OnOk result (is_flushed writer.new ≡ true) }
     ensures begun { OnErr result (IfSome (W.contents (watched writer.old)) (λ held.
         HasBegunText (text.now ++ codes "\n") held (W.contents (watched writer.new)))) }
-    ensures failed { IfErr result (λ _. has_failed writer.new ≡ true) }
+    ensures failed { IfErr result (λ fault. (fault ≡ Output WriteFailed)
+        × (has_failed writer.new ≡ true)) }
 {
     write_all(writer, text.as_bytes())?;
     write_all(writer, b"\n")?;

@@ -35,11 +35,11 @@ fn check_read(
         fault,
     });
     let mut sink = Sink::new(rt.alloc(), Vec::new(rt.alloc()));
-    let mut errors = Vec::new(rt.alloc());
+    let mut errors = Watched::new(Vec::new(rt.alloc()));
     let status = run_to_status(rt.alloc(), &mut reader, &mut sink, &mut errors);
     check_ending(
         rt,
-        (status, &errors),
+        (status, errors.inner()),
         succeeds,
         "chunkcalls: input failed\n",
         reads,
@@ -88,14 +88,14 @@ fn check_write(
     taken: &[u8],
     succeeds: bool,
 ) {
-    let mut errors = Vec::new(rt.alloc());
+    let mut errors = Watched::new(Vec::new(rt.alloc()));
     let mut reader = Watched::new(input);
     let mut sink = Sink::new(rt.alloc(), writer);
     let status = run_to_status(rt.alloc(), &mut reader, &mut sink, &mut errors);
     let writes = taken.len();
     check_ending(
         rt,
-        (status, &errors),
+        (status, errors.inner()),
         succeeds,
         "chunkcalls: output failed\n",
         writes,
@@ -127,7 +127,7 @@ fn check_flush(
     let input = joined(rt, input)?;
     let output = joined(rt, output)?;
     let writer = failing_writer(rt.alloc(), 100, None, true);
-    let mut errors = Vec::new(rt.alloc());
+    let mut errors = Watched::new(Vec::new(rt.alloc()));
     let mut reader = Watched::new(input.as_slice());
     let mut sink = Sink::new(rt.alloc(), writer);
     let status = run_to_status(rt.alloc(), &mut reader, &mut sink, &mut errors);
@@ -149,7 +149,7 @@ fn an_empty_output_is_flushed(rt: HostRuntime) {
         let other = Some(ErrorKind::Other);
         let writer = failing_writer(rt.alloc(), 0, other, flush_fails);
         let mut sink = Sink::new(rt.alloc(), writer);
-        let mut errors = Vec::new(rt.alloc());
+        let mut errors = Watched::new(Vec::new(rt.alloc()));
         let mut reader = Watched::new(b"".as_slice());
         let status = run_to_status(rt.alloc(), &mut reader, &mut sink, &mut errors);
         check_that(&rt, status == u8::from(flush_fails), 0);
@@ -158,7 +158,8 @@ fn an_empty_output_is_flushed(rt: HostRuntime) {
 
 #[test]
 fn a_fault_that_cant_be_told_is_one_all_the_same(rt: HostRuntime) {
-    let mut closed = failing_writer(rt.alloc(), 0, Some(ErrorKind::Other), true);
+    let closed = failing_writer(rt.alloc(), 0, Some(ErrorKind::Other), true);
+    let mut errors = Watched::new(closed);
     let outcome: Result<(), RunFault> = Err(RunFault::Memory);
-    check_that(&rt, finish(&outcome, &mut closed) == 1, 0);
+    check_that(&rt, finish(rt.alloc(), &outcome, &mut errors) == 1, 0);
 }

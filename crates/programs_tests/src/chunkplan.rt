@@ -71,11 +71,11 @@ fn check_read(
         fault,
     });
     let mut sink = Sink::new(rt.alloc(), Vec::new(rt.alloc()));
-    let mut errors = Vec::new(rt.alloc());
+    let mut errors = Watched::new(Vec::new(rt.alloc()));
     let status = run_to_status(rt.alloc(), &mut reader, &mut sink, &mut errors);
     check_ending(
         rt,
-        (status, &errors),
+        (status, errors.inner()),
         succeeds,
         "chunkplan: input failed\n",
         reads,
@@ -118,13 +118,13 @@ fn check_write(
         flush_fails,
     };
     let mut sink = Sink::new(rt.alloc(), writer);
-    let mut errors = Vec::new(rt.alloc());
+    let mut errors = Watched::new(Vec::new(rt.alloc()));
     let mut reader = Watched::new(document);
     let status = run_to_status(rt.alloc(), &mut reader, &mut sink, &mut errors);
     let succeeds = writes == lines.len() && !flush_fails;
     check_ending(
         rt,
-        (status, &errors),
+        (status, errors.inner()),
         succeeds,
         "chunkplan: output failed\n",
         writes,
@@ -162,9 +162,9 @@ fn a_failed_write_leaves_a_beginning(rt: HostRuntime) {
 fn check_fault(rt: &(impl Abort + AllocGlobal), document: &[u8], line: &str) {
     let mut reader = Watched::new(document);
     let mut sink = Sink::new(rt.alloc(), Vec::new(rt.alloc()));
-    let mut errors = Vec::new(rt.alloc());
+    let mut errors = Watched::new(Vec::new(rt.alloc()));
     let status = run_to_status(rt.alloc(), &mut reader, &mut sink, &mut errors);
-    check_ending(rt, (status, &errors), false, line, 0);
+    check_ending(rt, (status, errors.inner()), false, line, 0);
     check_bytes(rt, sink.writer().inner(), b"", 0);
 }
 

@@ -193,9 +193,9 @@ fn watched_calls_are_handed_on(rt: HostRuntime) {
 
 /// The fault is told by this line, and the status is 1.
 fn check_line(rt: &(impl Abort + AllocGlobal), fault: RunFault, line: &str) {
-    let mut errors = Vec::new(rt.alloc());
-    let status = finish(&Err(fault), &mut errors);
-    check_ending(rt, (status, &errors), false, line, 0);
+    let mut errors = Watched::new(Vec::new(rt.alloc()));
+    let status = finish(rt.alloc(), &Err(fault), &mut errors);
+    check_ending(rt, (status, errors.inner()), false, line, 0);
 }
 
 #[test]
@@ -207,11 +207,16 @@ fn other_faults_have_a_line(rt: HostRuntime) {
 
 #[test]
 fn a_fault_that_cant_be_told_is_one_all_the_same(rt: HostRuntime) {
-    let mut closed = FailingWriter {
+    let closed = FailingWriter {
         taken: Vec::new(rt.alloc()),
         writes: 0,
         fault: Some(ErrorKind::Other),
         flush_fails: true,
     };
-    check_that(&rt, finish(&Err(RunFault::Read), &mut closed) == 1, 0);
+    let mut errors = Watched::new(closed);
+    check_that(
+        &rt,
+        finish(rt.alloc(), &Err(RunFault::Read), &mut errors) == 1,
+        0,
+    );
 }

@@ -2,3 +2,4 @@ pub mod OneLines
 pub mod Known
 pub mod LineBytes
 pub mod Sent
+pub mod Told

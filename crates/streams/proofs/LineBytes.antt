@@ -1,10 +1,12 @@
 -- The bytes of a line, one after another.
-use Rattle.std.proofs.Common.{◌≡◌, ◌≢◌, ◌∙◌, ℕ, ◌<◌, ◌≤◌, Bool, true, false, eqb, List, Option, Some, None, [], ◌∷◌, ◌++◌, append-nil, append_assoc, ap, arith, cond, eq-eqb}
+use Rattle.std.proofs.Common.{◌≡◌, ◌≢◌, ◌∙◌, ℕ, ◌+◌, ◌<◌, ◌≤◌, Bool, true, false, eqb, List, Option, Some, None, [], ◌∷◌, ◌++◌, append-nil, append_assoc, ap, arith, cond, eq-eqb}
 use Rattle.std.proofs.Common.{length, length-append, ne_eqb, refl, sym}
 use Rattle.std.proofs.lemmas.Option.{none-some, same_Some}
 use Rattle.std.specs.Io.BufRead.{drop_through, take_through}
 use Rattle.streams.specs.declared.lines.Lines.{Lines}
+use Rattle.streams.specs.OneLine.{line_feeds}
 use Rattle.streams.specs.seen.Lines.{IsNextByte, left, unread}
+use Rattle.streams.proofs.OneLines.{line_feeds-append}
 
 module _ (byte : ℕ) (rest : List ℕ) where
   pub line_ends : byte ≡ 10 → (take_through 10 (byte ∷ rest) ≡ byte ∷ []) × (drop_through 10 (byte ∷ rest) ≡ rest)
@@ -21,11 +23,18 @@ module _ (byte : ℕ) (rest : List ℕ) where
         ap (λ b. cond b rest (drop_through 10 rest)) miss,
       )
 
--- What was taken of a line so far, and what is still to be taken of it and left behind it, is the whole of it.
+-- What was taken of a line so far, and what is still to be taken of it and left behind it, is the whole of it. No line feed was taken.
 pub record IsPartOfLine (before line : List ℕ) (bytes rest : List ℕ) : Type 0 where
+  pub begun : List ℕ
+  pub whole : bytes ≡ begun ++ rest
+  pub unended : line_feeds begun ≡ 0
+  pub line_is : line ≡ before ++ begun
   pub taken : before ++ take_through 10 bytes ≡ line ++ take_through 10 rest
   pub behind : drop_through 10 bytes ≡ drop_through 10 rest
   pub longer : length before ≤ length line
+
+no_line_feed : (byte : ℕ) → byte ≢ 10 → line_feeds (byte ∷ []) ≡ 0
+no_line_feed byte other = ap (λ b. cond b 1 0 + 0) (ne_eqb byte 10 other)
 
 module _ (before line bytes : List ℕ) where
   pub one_more_byte : (byte : ℕ) (rest : List ℕ) → byte ≢ 10 → IsPartOfLine before line bytes (byte ∷ rest)
@@ -34,6 +43,10 @@ module _ (before line bytes : List ℕ) where
       let more = line_goes_on byte rest other in
       let many = length-append line (byte ∷ []) in
       record {
+        begun = part.begun ++ byte ∷ [];
+        whole = part.whole ∙ sym (append_assoc part.begun (byte ∷ []) rest);
+        unended = line_feeds-append part.begun (byte ∷ []) part.unended (no_line_feed byte other);
+        line_is = ap (λ xs. xs ++ byte ∷ []) part.line_is ∙ append_assoc before part.begun (byte ∷ []);
         taken = part.taken ∙ ap (λ xs. line ++ xs) more.0 ∙ sym (append_assoc line (byte ∷ []) (take_through 10 rest));
         behind = part.behind ∙ more.1;
         longer = omega (arith, part.longer);

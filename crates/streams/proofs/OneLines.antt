@@ -4,7 +4,7 @@ use Rattle.std.proofs.Common.{length}
 use Rattle.std.proofs.lemmas.Bool.Decides.{nat_tests}
 use Rattle.streams.specs.OneLine.{IsOneLine, escape, is_control, line_break, line_feeds, line_of, long_break, unbroken, unbroken_behind, written}
 
-line_feeds-append : (xs ys : List ℕ) → line_feeds xs ≡ 0 → line_feeds ys ≡ 0 → line_feeds (xs ++ ys) ≡ 0
+pub line_feeds-append : (xs ys : List ℕ) → line_feeds xs ≡ 0 → line_feeds ys ≡ 0 → line_feeds (xs ++ ys) ≡ 0
 line_feeds-append [] ys none others = others
 line_feeds-append (x ∷ xs) ys none others =
     let rest = line_feeds-append xs ys (omega arith) others in

@@ -1,4 +1,5 @@
 pub mod OneLine
 pub mod Streams
+pub mod Told
 pub mod Watched
 pub mod seen

@@ -12,6 +12,10 @@ watched w = w.inner
 abbrev pub has_failed : {T : Type 0} → Watched T → Bool
 has_failed w = w.failed
 
+-- the last flush succeeded, and nothing was written after it
+abbrev pub is_flushed : {T : Type 0} → Watched T → Bool
+is_flushed w = w.flushed
+
 -- a write failed, or took nothing of something
 abbrev pub is_failed_write : {E : Type 0} → Result ℕ E → List ℕ → Bool
 is_failed_write (Ok n) bytes = n == 0 && not (length bytes == 0)

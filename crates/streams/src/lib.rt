@@ -17,7 +17,7 @@ mod stream_fault;
 mod transfer;
 mod watched;
 
-pub use line_text::{Escaped, one_line, unbroken};
+pub use line_text::{one_line, unbroken};
 pub use lines::Lines;
 pub use sink::Sink;
 pub use stream_fault::StreamFault;

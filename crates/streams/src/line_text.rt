@@ -5,8 +5,6 @@ ghost use Rattle.streams.specs.OneLine.{IsOneLine, escape, is_control as is_a_co
 ghost use Rattle.streams.specs.OneLine.{unbroken as unbroken_text, written};
 
 use std::alloc::{AllocError, Global};
-use std::fmt;
-use std::fmt::{Display, Write};
 
 /// Returns a text of UTF-8 as one line that a line feed ends. Each control character in it, and each line or paragraph separator, is escaped as in
 /// JSON: so no reader takes the line for two.
@@ -121,37 +119,4 @@ fn hexadecimal(number: u32) -> u8
     } else {
         b'a' + (number - 10)
     }
-}
-
-/// A value whose text is written without line breaks: with the characters escaped that [`one_line`] escapes.
-#[derive(Drop)]
-pub struct Escaped<'a, T>(pub &'a T);
-
-impl<T: Display> Display for Escaped<'_, T> {
-    fn fmt<W: Write>(&self, f: &mut fmt::Formatter<W>) -> fmt::Result {
-        let mut escaping = Escaping(f);
-        write!(escaping, "{}", self.0)
-    }
-}
-
-/// Escapes what is written to a formatter.
-#[derive(Drop)]
-struct Escaping<'a, W>(&'a mut fmt::Formatter<W>);
-
-impl<W: Write> Write for Escaping<'_, W> {
-    fn write_str(&mut self, text: &str) -> fmt::Result {
-        for character in text.chars() {
-            if breaks_line(character) {
-                write!(self.0, "\\u{:04x}", character as u32)?;
-            } else {
-                self.0.write_char(character)?;
-            }
-        }
-        Ok(())
-    }
-}
-
-/// Whether some reader takes a character for the end of a line, or for a command: a control character, or a line or paragraph separator.
-fn breaks_line(character: char) -> bool {
-    character.is_control() || character == '\u{2028}' || character == '\u{2029}'
 }

@@ -17,10 +17,11 @@ pub struct Lines {
 }
 
 impl Lines {
-    ghost use Rattle.std.specs.Prelude.{◌≡◌, ◌<◌, ◌++◌, [], ℕ, List, IfOk, IfSome, MatchResult, OnOk, Some, false, true};
+    ghost use Rattle.std.specs.Prelude.{◌≡◌, ◌<◌, ◌++◌, [], ℕ, List, IfErr, IfOk, IfSome, MatchResult, OnOk, Some, false, true};
     ghost use Rattle.std.specs.Io.BufRead.{drop_through, take_through};
     ghost use Rattle.streams.specs.Watched.{IsReadFailure, has_failed, watched};
-    ghost use Rattle.streams.specs.seen.Lines.{IsNextByte, left, unread};
+    ghost use Rattle.streams.specs.seen.Lines.{IsCutOff, IsNextByte, left, unread};
+    ghost use Rattle.streams.specs.declared.stream_fault.StreamFault.TheVariants.{Read as ReadFailed};
 
     /// Nothing was read yet.
     pub fn new(alloc: Global) -> Lines
@@ -54,6 +55,11 @@ impl Lines {
             → length line.old.items < length line.new.items) }
         ensures failed { MatchResult result (λ _. has_failed reader.new ≡ has_failed reader.old)
             (λ fault. IsReadFailure fault (has_failed reader.old) (has_failed reader.new)) }
+        ensures cut { IfErr result (λ fault. fault ≡ ReadFailed
+            → IfSome (left self.old (R.remaining (watched reader.old)))
+            (λ bytes. IsCutOff line.old.items line.new.items bytes
+            (R.remaining (watched reader.new)))) }
+        ensures none_unread { IfErr result (λ fault. fault ≡ ReadFailed → unread self.new ≡ []) }
     {
         while let Some(byte) = self.next_byte(reader)? {
             line.push(byte)?;
@@ -94,6 +100,10 @@ impl Lines {
             → IsNextByte bytes found (left self.new (R.remaining (watched reader.new)))) }
         ensures failed { MatchResult result (λ _. has_failed reader.new ≡ has_failed reader.old)
             (λ fault. IsReadFailure fault (has_failed reader.old) (has_failed reader.new)) }
+        ensures kept { IfErr result (λ fault. fault ≡ ReadFailed → (bytes : List ℕ)
+            → left self.old (R.remaining (watched reader.old)) ≡ Some bytes
+            → R.remaining (watched reader.new) ≡ Some bytes) }
+        ensures none_unread { IfErr result (λ fault. fault ≡ ReadFailed → unread self.new ≡ []) }
     {
         if !self.has_more(reader)? {
             return Ok(None);
@@ -117,6 +127,10 @@ impl Lines {
             → left self.old (R.remaining (watched reader.old)) ≡ Some bytes → bytes ≡ []) }
         ensures failed { MatchResult result (λ _. has_failed reader.new ≡ has_failed reader.old)
             (λ fault. IsReadFailure fault (has_failed reader.old) (has_failed reader.new)) }
+        ensures kept { IfErr result (λ fault. fault ≡ ReadFailed → (bytes : List ℕ)
+            → left self.old (R.remaining (watched reader.old)) ≡ Some bytes
+            → R.remaining (watched reader.new) ≡ Some bytes) }
+        ensures none_unread { IfErr result (λ fault. fault ≡ ReadFailed → unread self.new ≡ []) }
     {
         if self.at < self.bytes.len() {
             return Ok(true);

@@ -1,6 +1,6 @@
 //! A writer that gets many bytes at a time.
 ghost use Rattle.std.specs.Prelude.{◌≡◌, [], ◌++◌, ℕ, List, IfErr, IfSome, MatchResult, OnErr, OnOk, Some, true};
-ghost use Rattle.streams.specs.Watched.{IsWriteFailure};
+ghost use Rattle.streams.specs.Watched.{IsWriteFailure, is_flushed};
 ghost use Rattle.streams.specs.seen.Sent.{Sends, begun, watched_in, written};
 ghost use Rattle.streams.specs.declared.stream_fault.StreamFault.TheVariants.{Memory, Write as WriteFailed};
 
@@ -74,6 +74,7 @@ impl<W: Write> Sink<W> {
         ensures empty { OnOk result ((written W.contents self.new).held_back ≡ []) }
         ensures unfailed { OnOk result ((written W.contents self.new).failed
             ≡ (written W.contents self.old).failed) }
+        ensures flushed { OnOk result (is_flushed (watched_in self.new) ≡ true) }
         ensures err { OnErr result (IfSome (written W.contents self.old).holds (λ held.
             (sent : List ℕ) × (rest : List ℕ)
             × ((written W.contents self.old).held_back ≡ sent ++ rest)

@@ -2,16 +2,17 @@
 use std::io;
 use std::io::{Read, Write};
 
-/// A reader or writer, and whether a call through it failed.
+/// A reader or writer, whether a call through it failed, and whether what it was given was flushed.
 #[derive(Debug, Drop)]
 pub struct Watched<T> {
     inner: T,
     failed: bool,
+    flushed: bool,
 }
 
 impl<T> Watched<T> {
     ghost use Rattle.std.specs.Prelude.{◌≡◌, false};
-    ghost use Rattle.streams.specs.Watched.{watched, has_failed};
+    ghost use Rattle.streams.specs.Watched.{watched, has_failed, is_flushed};
 
     /// Watches a reader or writer, of which no call has failed yet.
     pub fn new(inner: T) -> Watched<T>
@@ -21,6 +22,7 @@ impl<T> Watched<T> {
         Watched {
             inner,
             failed: false,
+            flushed: true,
         }
     }
 
@@ -37,13 +39,20 @@ impl<T> Watched<T> {
     {
         self.failed
     }
+
+    /// Whether the last flush succeeded, and nothing was written after it. Before the first write it is true.
+    pub fn flushed(&self) -> bool
+        ensures { result ≡ is_flushed self.now }
+    {
+        self.flushed
+    }
 }
 
 impl<R: Read> Watched<R> {
     ghost use Rattle.std.specs.Prelude.{◌≡◌, ◌||◌, is_err};
     ghost use Rattle.std.specs.Io.{ReadsAtMost};
     ghost use Rattle.std.specs.Io.KnownBytes.{ReadConsumes};
-    ghost use Rattle.streams.specs.Watched.{watched, has_failed};
+    ghost use Rattle.streams.specs.Watched.{watched, has_failed, is_flushed};
 
     /// Reads into `buf` and tells how many bytes, as the reader itself does.
     ///
@@ -55,6 +64,7 @@ impl<R: Read> Watched<R> {
             (R.remaining (watched self.new))
             result buf.new }
         ensures failed { has_failed self.new ≡ (has_failed self.old || is_err result) }
+        ensures flushed { is_flushed self.new ≡ is_flushed self.old }
     {
         let result = self.inner.read(buf);
         self.failed |= result.is_err();
@@ -63,10 +73,10 @@ impl<R: Read> Watched<R> {
 }
 
 impl<W: Write> Watched<W> {
-    ghost use Rattle.std.specs.Prelude.{◌≡◌, ◌||◌, is_err};
+    ghost use Rattle.std.specs.Prelude.{◌≡◌, ◌||◌, false, is_err, is_ok};
     ghost use Rattle.std.specs.Io.{WritesAtMost};
     ghost use Rattle.std.specs.Io.KnownBytes.{WriteAppends, Keeps};
-    ghost use Rattle.streams.specs.Watched.{watched, has_failed, is_failed_write};
+    ghost use Rattle.streams.specs.Watched.{watched, has_failed, is_failed_write, is_flushed};
 
     /// Writes from the front of `buf` and tells how many bytes, as the writer itself does.
     ///
@@ -78,7 +88,9 @@ impl<W: Write> Watched<W> {
             result buf.now }
         ensures failed { has_failed self.new ≡
             (has_failed self.old || is_failed_write result buf.now) }
+        ensures flushed { is_flushed self.new ≡ false }
     {
+        self.flushed = false;
         let result = self.inner.write(buf);
         self.failed |= match result {
             Ok(count) => count == 0 && !buf.is_empty(),
@@ -94,9 +106,11 @@ impl<W: Write> Watched<W> {
     pub fn flush(&mut self) -> io::Result<()>
         ensures bytes { Keeps (W.contents (watched self.old)) (W.contents (watched self.new)) }
         ensures failed { has_failed self.new ≡ (has_failed self.old || is_err result) }
+        ensures flushed { is_flushed self.new ≡ is_ok result }
     {
         let result = self.inner.flush();
         self.failed |= result.is_err();
+        self.flushed = result.is_ok();
         result
     }
 }

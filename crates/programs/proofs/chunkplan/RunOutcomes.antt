@@ -1,6 +1,6 @@
 -- The outcomes of a run, put together from its steps.
 use Rattle.programs.proofs.chunkplan.Common.{◌≡◌, ◌∙◌, ℕ, Bool, true, false, List, [], ◌++◌, Option, None, Some, Result, Ok, Err, append_assoc, ap}
-use Rattle.programs.proofs.chunkplan.Common.{arith, inl, inr, sym, true≢false, ⊎_elim, Data, Box, then, Stored, Document, Task, Wanted, copying_in}
+use Rattle.programs.proofs.chunkplan.Common.{arith, inl, inr, refl, sym, true≢false, ⊎_elim, Data, Box, then, Stored, Document, Task, Wanted, copying_in}
 use Rattle.programs.proofs.chunkplan.Common.{document_in, form_in, rechunking_in, region_in, Copying, by_source, copy_to, counts_wanted, into_chunks}
 use Rattle.programs.proofs.chunkplan.Common.{lines_wanted, read_of, resize_to, to_region, within_bound, behind_first, first_line, of_create}
 use Rattle.programs.proofs.chunkplan.Common.{of_document, of_stream, of_target, Output, RunFault, Memory, Read, Write, DocumentFault, StreamFault}
@@ -9,7 +9,7 @@ use Rattle.streams.specs.Streams.{IsReadToEnd, Streams}
 use Rattle.programs.specs.chunkplan.Planned.{Array, IsPlanOf, begins_at, beside_by, copy_beside, copy_text, groups_of, missing_text}
 use Rattle.programs.specs.chunkplan.Planned.{of_document as of_whole, of_input, of_keys, region_of, several_lines, source_in, target_in, target_shape}
 use Rattle.programs.specs.chunkplan.Planned.{text_beside, text_by, text_unless, whole_in, within_text}
-use Rattle.programs.specs.chunkplan.Run.{HasBegunPlan, RunLeaves}
+use Rattle.programs.specs.chunkplan.Run.{FailsAfterDocument, HasBegunPlan, RunLeaves}
 use Rattle.programs.specs.chunkplan.RunFault.{of_region as of_region_error}
 use Rattle.programs.specs.chunkplan.seen.Steps.{HasBegun, InputStepLeaves}
 use Rattle.programs.specs.declared.chunkplan.document.Stage.{Stage}
@@ -149,12 +149,13 @@ module _ (input held : List ℕ) (s : Streams) (before : Output) (known : before
       let (sent, now, parts) = rw (known, none) at sends in
       (text, sent, rest, is, parts, now)
 
-  pub sending_stops : (fault : RunFault) → InputStepLeaves input (Err fault) s.read_failed s.left before After → RunLeaves input held (Err fault) s
-  sending_stops Read leaves = (leaves.0, (leaves.2 ∙ known, leaves.1 ∙ not_failed))
-  sending_stops Write leaves = ((leaves.1, leaves.0), begun leaves.2.1, leaves.2.0)
-  sending_stops Memory leaves =
+  pub sending_stops : (fault : RunFault) → InputStepLeaves input (Err fault) s.read_failed s.left before After
+      → (fault ≡ Read → FailsAfterDocument input s.left) → RunLeaves input held (Err fault) s
+  sending_stops Read leaves read = (leaves.0, (leaves.2 ∙ known, leaves.1 ∙ not_failed), read refl)
+  sending_stops Write leaves read = ((leaves.1, leaves.0), begun leaves.2.1, leaves.2.0)
+  sending_stops Memory leaves read =
       (leaves.0, leaves.1.0 ∙ not_failed, ⊎_elim (λ unsent. inl (unsent ∙ known)) (λ has. inr (begun has)) leaves.1.1)
-  sending_stops _ leaves = ((leaves.0, leaves.1.2.0), leaves.1.2.1, (leaves.1.1 ∙ known, leaves.1.0 ∙ not_failed))
+  sending_stops _ leaves read = ((leaves.0, leaves.1.2.0), leaves.1.2.1, (leaves.1.1 ∙ known, leaves.1.0 ∙ not_failed))
 
 -- ---- writing what was held back
 

@@ -1,5 +1,6 @@
 -- What a reader of lines has left.
 use Rattle.std.specs.Prelude.{◌≡◌, ℕ, List, [], ◌∷◌, ◌++◌, drop, Option, Some, None, option_map}
+use Rattle.streams.specs.OneLine.{line_feeds}
 use Rattle.streams.specs.declared.lines.Lines.{Lines}
 
 -- what was read, and isn't given yet
@@ -14,3 +15,8 @@ left lines remaining = option_map (λ rest. unread lines ++ rest) remaining
 abbrev pub IsNextByte : (bytes : List ℕ) → Option ℕ → (left : Option (List ℕ)) → Type 0
 IsNextByte bytes (Some byte) left = (rest : List ℕ) × (bytes ≡ byte ∷ rest) × (left ≡ Some rest)
 IsNextByte bytes None left = (bytes ≡ []) × (left ≡ Some [])
+
+-- Of some bytes a beginning without a line feed was appended to a line, and the reader has the others left.
+abbrev pub IsCutOff : (before line bytes : List ℕ) → (remaining : Option (List ℕ)) → Type 0
+IsCutOff before line bytes remaining =
+    (begun : List ℕ) × (rest : List ℕ) × (bytes ≡ begun ++ rest) × (line_feeds begun ≡ 0) × (line ≡ before ++ begun) × (remaining ≡ Some rest)

@@ -2,6 +2,7 @@ use Rattle.programs.proofs.chunkcalls.Common.{◌≡◌, ℕ, false, List, Err, 
 use Rattle.programs.proofs.chunkcalls.Common.{written, for_known, HasAnsweredRead, HasBegunAnswers, HoldsAnswers}
 use Rattle.streams.specs.Streams.{Streams}
 use Rattle.programs.specs.chunkcalls.Run.{RunLeaves, TellsFailure}
+use Rattle.streams.proofs.Told.{on_one, on_zero}
 use Rattle.programs.proofs.chunkcalls.run_to_status.Goals as goal
 
 -- what a run promises of each outcome, together
@@ -24,3 +25,9 @@ returns-clause-outcome g c =
           (rw not_written at run.no_write_failed) (rw not_read at run.failed) (rw is_input at run.begun) (rw is_input at run.read),
       c.finish.ensures.status,
     ))
+
+pub returns-clause-flushed : goal.returns-clause-flushed
+returns-clause-flushed g c = on_zero c.run-outcome.result c.finish.result _ c.finish.ensures.status c.run-outcome.ensures.flushed
+
+pub returns-clause-told : goal.returns-clause-told
+returns-clause-told g c = on_one c.run-outcome.result c.finish.result _ c.finish.ensures.status c.finish.ensures.told

@@ -1,7 +1,7 @@
 use Rattle.std.proofs.Common.{◌∙◌, ◌++◌, List, Option, Result, Ok, Err, OnErr, Some, ap, append_assoc, codes, sym, ℕ}
 use Rattle.streams.proofs.Known.{for_known}
 use Rattle.streams.specs.Watched.{watched}
-use Rattle.programs.specs.Words.{HasBegunText}
+use Rattle.streams.specs.Told.{HasBegunText}
 use Rattle.programs.proofs.words.write_line.Goals as goal
 
 on_err : {T E P : Type 0} (r : Result T E) → P → OnErr r P

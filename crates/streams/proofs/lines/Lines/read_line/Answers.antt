@@ -1,9 +1,17 @@
 use Rattle.std.proofs.Common.{◌∙◌, ap, arith, length, length-append, sym, ◌∷◌, [], Some}
+use Rattle.std.proofs.lemmas.Result.{err_from_is_err_and}
 use Rattle.streams.specs.Watched.{watched}
 use Rattle.streams.specs.seen.Lines.{left}
 use Rattle.streams.proofs.Known.{for_known}
 use Rattle.streams.proofs.LineBytes.{at_end, last_byte, no_more_bytes, one_more_byte}
 use Rattle.streams.proofs.lines.Lines.read_line.Goals as goal
+
+pub returns-in_err-byte-clause-cut : goal.returns-in_err-byte-clause-cut
+returns-in_err-byte-clause-cut g c =
+    let p = err_from_is_err_and c.from_residual.result c.from_residual.ensures.1 in
+    rw (p.1, p.2) (λ is_read. for_known (left c.args.self.now (g.R.Read.remaining (watched c.args.reader.now))) _ (λ bytes is.
+    let (before, is_left, part) = c.loop-byte.invariant.0 bytes is in
+    (part.begun, before, part.whole, part.unended, part.line_is, c.in_err-byte.ensures.kept is_read before is_left)))
 
 pub returns-then-byte-eq10-clause-line : goal.returns-then-byte-eq10-clause-line
 returns-then-byte-eq10-clause-line g c =
