@@ -4,8 +4,10 @@ use std::alloc::Global;
 use std::process::Abort;
 use std::test::Fail;
 use zarrs_chunk_base::Refusal;
+use zarrs_chunk_plan::Share;
 use zarrs_chunk_tasks::laws::{
-    a_rechunking_writes_whole_chunks, each_element_goes_by_the_buffer, no_chunk_is_in_two_tasks,
+    a_rechunking_writes_whole_chunks, each_element_goes_by_the_buffer,
+    each_task_lies_in_both_arrays, no_chunk_is_in_two_tasks, shares_are_together_the_tasks,
     the_tasks_are_the_copy, the_walk_gives_the_tasks, there_are_tasks,
 };
 use zarrs_chunk_tasks::{Task, Tasks, TasksError, tasks, tasks_by_source};
@@ -86,6 +88,22 @@ fn a_walk_goes_to_any_task(rt: HostRuntime) -> Result<(), Fail> {
 }
 
 #[test]
+fn a_share_of_two_has_one_task(rt: HostRuntime) -> Result<(), Fail> {
+    let alloc = rt.alloc();
+    let (source, target) = two_rows(alloc)?;
+    let (region, each) = (some_of(alloc, 2, 7)?, edges_of(alloc, 2)?);
+    let mut walk = tasks(alloc, &source.grid, &target.grid, &region, &AT, &each)?;
+    let mut lines = String::new(alloc);
+    for number in 0..2 {
+        let share = Share::new(number, 2).ok_or("no such share")?;
+        assert_eq!(rt; walk.share(&share)?, Some(number));
+        lines.push_str(lines_of(alloc, &mut walk)?.as_str())?;
+    }
+    check_text(&rt, lines.as_str(), BY_TARGET);
+    Ok(())
+}
+
+#[test]
 fn an_empty_region_has_no_tasks(rt: HostRuntime) -> Result<(), Fail> {
     let alloc = rt.alloc();
     let (source, target) = two_rows(alloc)?;
@@ -143,6 +161,8 @@ fn the_laws_hold(rt: HostRuntime) -> Result<(), Fail> {
     no_chunk_is_in_two_tasks(&source.grid, &target.grid);
     each_element_goes_by_the_buffer(&source, &target);
     a_rechunking_writes_whole_chunks(&target);
+    each_task_lies_in_both_arrays(&source.grid, &target.grid);
+    shares_are_together_the_tasks();
     there_are_tasks(&source.grid, &target.grid, &region, &each);
     Ok(())
 }

@@ -1,5 +1,6 @@
 mod GroupBoxes
 mod GroupsAlong
+mod Sharing
 mod SomeTasks
 mod TaskLaws
 mod TaskParts

@@ -1,8 +1,8 @@
 -- What holds of the tasks of every copy.
-use Rattle.std.proofs.Common.{◌≡◌, ◌≢◌, ◌∙◌, ℕ, ◌/◌, List, [], ◌∷◌, Contains, length, ap, ap₂, refl, subst, sym, arith}
+use Rattle.std.proofs.Common.{◌≡◌, ◌≢◌, ◌∙◌, ℕ, ◌+◌, ◌-◌, ◌/◌, List, [], ◌∷◌, Contains, length, ap, ap₂, refl, subst, sym, arith}
 use Rattle.std.specs.List.{AllByRecursion, AllPairs}
 use Rattle.std.proofs.lemmas.List.{length-map}
-use Rattle.zarrs_chunk_base.specs.ArraySubset.{Box, IsInside}
+use Rattle.zarrs_chunk_base.specs.ArraySubset.{AreWithin, Box, IsInside}
 use Rattle.zarrs_chunk_base.specs.Dimension.{Dimension, Holds, InBox, IsChain, array_sizes}
 use Rattle.zarrs_chunk_axes.specs.InBounds.{AreBelow}
 use Rattle.zarrs_chunks.specs.Walks.{chunks_in, counted_from}
@@ -10,7 +10,7 @@ use Rattle.zarrs_chunks.proofs.Chains.{no_later}
 use Rattle.zarrs_chunks.proofs.ChunksInBoxes.{are_those_inside, chunks_once, length_below, lie_within, offset_of}
 use Rattle.zarrs_chunk_base.proofs.Boxes.{within_lengths}
 use Rattle.zarrs_chunk_parts.specs.Plan.{Meets}
-use Rattle.zarrs_chunk_plan.specs.Region.{IsDestination, LiesIn, shifted}
+use Rattle.zarrs_chunk_plan.specs.Region.{EndWithin, IsDestination, LiesIn, shifted}
 use Rattle.zarrs_chunk_plan.proofs.MovedBoxes.{within_below, within_long, within_starts}
 use Rattle.zarrs_chunk_plan.proofs.Plans.{added, counted_once, length_counted, pair_of, pairs_of, source_of}
 use Rattle.zarrs_chunk_tasks.specs.Groups.{InGroup}
@@ -187,6 +187,9 @@ module _ {ds : List Dimension} {each : List ℕ} {elements : Box} {first at : Li
   pub are_the_copy : LiesIn elements (array_sizes ds) → length each ≡ length ds → AreTheCopy region at tasks
   are_the_copy lies many = record {
     moved = λ index to. (some_task lies many index to, λ (task, in_tasks, goes). nothing_else task in_tasks index to goes);
+    one_shape = λ task in_tasks.
+        let (group, among, is) = source_of Is (chunks_in are.groups) tasks are.are_tasks task in_tasks in
+        ap (λ (b : Box). b.shape) is.source ∙ sym (ap (λ (b : Box). b.shape) is.target);
     read_once =
         pairs_of Is (λ one other. (index to also : List ℕ) → Moves one index to → Moves other index also → ⊥) (chunks_in are.groups) tasks are.are_tasks
         (chunks_once are.groups are.is_box)
@@ -209,6 +212,55 @@ module _ {ds : List Dimension} {each : List ℕ} {elements : Box} {first at : Li
       let (_, in_one) = (is.buffer.elements index).0 (subst (λ b. IsInside b index) (is_buffer one task is) inside) in
       let (_, in_other) = (is_next.buffer.elements place).0 (subst (λ b. IsInside b place) (is_buffer other next is_next) also_inside) in
       differ (group_of_chunk ds each chunk one other index place chains box also_box in_one in_other))
+
+-- ---- both boxes of a task lie in their arrays
+
+-- a box that lies in another one, counted from its first element, ends within its shape
+ends_inside : (start steps sizes shape index : List ℕ) → length steps ≡ length start → AreWithin (counted_from start steps) sizes index
+    → ((x : List ℕ) → AreWithin (counted_from start steps) sizes x → AreWithin start shape x) → EndWithin steps sizes shape
+ends_inside [] [] [] shape [] same within inside = none shape (inside [] tt) where
+  none : (shape : List ℕ) → AreWithin [] shape [] → EndWithin [] [] shape
+  none [] within = tt
+  none (_ ∷ _) within = absurd within
+ends_inside (s ∷ start) (n ∷ steps) (m ∷ sizes) [] (i ∷ index) same within inside = absurd (inside (i ∷ index) within)
+ends_inside (s ∷ start) (n ∷ steps) (m ∷ sizes) (k ∷ shape) (i ∷ index) same within inside =
+    let low = within.0 in
+    let high = within.1 in
+    let last = inside ((s + n + (m - 1)) ∷ index) (omega arith, omega arith, within.2) in (
+      omega (arith, last.1),
+      ends_inside start steps sizes shape index (omega arith) within.2 (λ x here. (inside (i ∷ x) (within.0, within.1, here)).2),
+    )
+ends_inside [] [] (_ ∷ _) shape index same within inside = absurd within
+ends_inside [] [] [] shape (_ ∷ _) same within inside = absurd within
+ends_inside (_ ∷ _) (_ ∷ _) [] shape index same within inside = absurd within
+ends_inside (_ ∷ _) (_ ∷ _) (_ ∷ _) shape [] same within inside = absurd within
+ends_inside [] (_ ∷ _) sizes shape index same within inside = absurd (omega arith)
+ends_inside (_ ∷ _) [] sizes shape index same within inside = absurd (omega arith)
+
+-- and so does the box from elsewhere on
+still_within : (first steps sizes shape array : List ℕ) → EndWithin steps sizes shape → EndWithin first shape array
+    → EndWithin (counted_from first steps) sizes array
+still_within [] [] [] [] [] ends lies = tt
+still_within (f ∷ first) (n ∷ steps) (m ∷ sizes) (k ∷ shape) (a ∷ array) ends lies =
+    (omega (arith, ends.0, lies.0), still_within first steps sizes shape array ends.1 lies.1)
+still_within first steps sizes shape array ends lies =
+    absurd (omega (arith, within_starts steps sizes shape ends, within_long steps sizes shape ends, within_starts first shape array lies, within_long first shape array lies))
+
+module _ {ds : List Dimension} {each : List ℕ} {elements : Box} {first at : List ℕ} {tasks : List Task}
+    (elements_long : length elements.start ≡ length elements.shape) (first_long : length first ≡ length elements.start)
+    (at_long : length at ≡ length elements.start) (are : AreTasks ds each elements first at tasks) (source target : List ℕ)
+    (from_lies : EndWithin first elements.shape source) (into_lies : EndWithin at elements.shape target) where
+  pub task_lies : (task : Task) → Contains tasks task → LiesIn task.source source × LiesIn task.target target
+  task_lies task in_tasks =
+      let (group, among, is) = source_of (IsTask ds each elements first at) (chunks_in are.groups) tasks are.are_tasks task in_tasks in
+      let (index, inside, in_group) = (are.named group).0 ((are_those_inside are.groups are.is_box group).0 among) in
+      let within = (is.buffer.elements index).1 (inside, in_group) in
+      let ends = ends_inside elements.start is.behind.start is.behind.shape elements.shape index
+      (steps_long elements_long first_long at_long is index within inside) within (λ x here. ((is.buffer.elements x).0 here).0)
+      in (
+        subst (λ (b : Box). LiesIn b source) (sym is.source) (still_within first is.behind.start is.behind.shape elements.shape source ends from_lies),
+        subst (λ (b : Box). LiesIn b target) (sym is.target) (still_within at is.behind.start is.behind.shape elements.shape target ends into_lies),
+      )
 
 -- ---- by either array
 
@@ -241,3 +293,15 @@ module _ (source target : List Dimension) (region : Box) (at each : List ℕ) (h
   copy_by_source chains are =
       are_the_copy chains (omega (arith, region_starts, region_sizes)) refl (omega (arith, region_starts, region_sizes, at_starts, at_sizes)) are
       has.can.in_source (omega (arith, has.lengths, source_long))
+
+  pub lies_by_target : AreTasksByTarget target each region at tasks → (task : Task) → Contains tasks task
+      → LiesIn task.source (array_sizes source) × LiesIn task.target (array_sizes target)
+  lies_by_target are =
+      task_lies (omega (arith, at_starts, at_sizes)) (omega (arith, region_starts, region_sizes, at_starts, at_sizes)) refl are (array_sizes source)
+      (array_sizes target) has.can.in_source has.can.in_target
+
+  pub lies_by_source : AreTasksBySource source each region at tasks → (task : Task) → Contains tasks task
+      → LiesIn task.source (array_sizes source) × LiesIn task.target (array_sizes target)
+  lies_by_source are =
+      task_lies (omega (arith, region_starts, region_sizes)) refl (omega (arith, region_starts, region_sizes, at_starts, at_sizes)) are (array_sizes source)
+      (array_sizes target) has.can.in_source has.can.in_target

@@ -17,7 +17,8 @@ use Rattle.zarrs_chunk_tasks.specs.declared.tasks_error.TasksError.TheVariants.{
 -- The chunks of one of the two arrays are grouped, and `elements` is the box of that array that is copied. In the source's array the copy begins at
 -- `first`, in the target's at `at`.
 module _ (ds : List Dimension) (each : List ℕ) (elements : Box) (first at : List ℕ) where
-  -- The task of a group: its buffer is what the group holds. Its boxes begin as far after `first` and `at` as the buffer begins after the first element.
+  -- The task of a group: its buffer is what the group holds. Its boxes begin as far after `first` and `at` as the buffer begins after the first one of
+  -- `elements`.
   pub record IsTask (group : List ℕ) (task : Task) : Type 0 where
     pub numbers : task.group.items ≡ group
     pub behind : Box
@@ -44,10 +45,12 @@ AreTasksBySource source each region at = AreTasks source each region region.star
 abbrev pub Moves : Task → (index to : List ℕ) → Type 0
 Moves task = IsDestination task.source task.target.start
 
--- The tasks are the copy of a region: they move each element to where it goes, and nothing else. No two read one element, or write one.
+-- The tasks are the copy of a region: they move each element to where it goes, and nothing else. No two read one element, or write one. Both boxes of a
+-- task have one shape.
 pub record AreTheCopy (region : Box) (at : List ℕ) (tasks : List Task) : Type 0 where
   pub moved : (index to : List ℕ) → IsDestination region at index to ↔ ((task : Task) × Contains tasks task × Moves task index to)
   pub read_once : AllPairs (λ one other. (index to also : List ℕ) → Moves one index to → Moves other index also → ⊥) tasks
+  pub one_shape : (task : Task) → Contains tasks task → task.source.shape ≡ task.target.shape
   pub written_once : AllPairs (λ one other. (to index also : List ℕ) → Moves one index to → Moves other also to → ⊥) tasks
 
 -- An element goes by way of a task's buffer: a part that the task reads has it, a part that it writes has it where it goes, and both have it at one place

@@ -5,19 +5,22 @@
 //! |---|---|
 //! | What a walk that `tasks` or `tasks_by_source` returns gives, one after another, are the tasks of the copy | [`the_walk_gives_the_tasks`] |
 //! | Each element of the region is moved by exactly one task, to where it goes; no task moves anything else | [`the_tasks_are_the_copy`] |
+//! | Both boxes of a task lie in their arrays | [`each_task_lies_in_both_arrays`] |
+//! | Shares of the tasks are together the tasks | [`shares_are_together_the_tasks`] |
 //! | No chunk of the grouped array is in two tasks | [`no_chunk_is_in_two_tasks`] |
 //! | An element that a task reads is written from the place of the buffer to which it was read | [`each_element_goes_by_the_buffer`] |
 //! | In a rechunking by groups of the target's chunks, each part that a task writes is whole | [`a_rechunking_writes_whole_chunks`] |
-//! | There are tasks of each copy | [`there_are_tasks`] |
-ghost use Rattle.std.specs.Prelude.{◌≡◌, ℕ, IsTrue, List, Ok, map};
+//! | There is a list of tasks for each copy | [`there_are_tasks`] |
+ghost use Rattle.std.specs.Prelude.{◌≡◌, ◌<◌, ℕ, IsTrue, List, Ok, map};
 ghost use Rattle.std.specs.Int.NonZero.{non_zero_u64_get};
 ghost use Rattle.std.specs.Iterator.{Drains};
-ghost use Rattle.std.specs.List.{AllPairs, Contains};
+ghost use Rattle.std.specs.List.{AllPairs, Contains, flat_map, range_with_len};
 ghost use Rattle.zarrs_chunk_base.specs.ArraySubset.{Box, IsBox};
 ghost use Rattle.zarrs_chunk_base.specs.Dimension.{array_sizes};
 ghost use Rattle.zarrs_chunk_parts.specs.Plan.{IsPlan, Meets};
 ghost use Rattle.zarrs_chunk_plan.specs.Rechunking.{array_box};
-ghost use Rattle.zarrs_chunk_plan.specs.Region.{moved};
+ghost use Rattle.zarrs_chunk_plan.specs.Region.{LiesIn, moved};
+ghost use Rattle.zarrs_chunk_plan.specs.Shares.{numbered_share};
 ghost use Rattle.zarrs_chunk_tasks.specs.Tasks.{AreTasks, AreTasksBySource, AreTasksByTarget, AreTheCopy, GoesByBuffer, HasTasks, Moves};
 ghost use Rattle.zarrs_chunk_tasks.specs.seen.Tasks.{ArePlanned, AreTasksToCome, CanGive, GivesTask};
 
@@ -59,6 +62,28 @@ pub fn the_tasks_are_the_copy<G: ChunkGridTraits, H: ChunkGridTraits>(
     region.is_a_box();
 }
 
+/// Both boxes of a task lie in their arrays, so both have a plan.
+pub fn each_task_lies_in_both_arrays<G: ChunkGridTraits, H: ChunkGridTraits>(source: &G, target: &H)
+    ensures by_target { (region : Box) (at each : List ℕ) (tasks : List Task)
+        → HasTasks (array_sizes (G.dimensions source.now)) (array_sizes (H.dimensions target.now))
+        region at each → AreTasksByTarget (H.dimensions target.now) each region at tasks
+        → (task : Task) → Contains tasks task
+        → LiesIn task.source (array_sizes (G.dimensions source.now))
+        × LiesIn task.target (array_sizes (H.dimensions target.now)) }
+    ensures by_source { (region : Box) (at each : List ℕ) (tasks : List Task)
+        → HasTasks (array_sizes (G.dimensions source.now)) (array_sizes (H.dimensions target.now))
+        region at each → AreTasksBySource (G.dimensions source.now) each region at tasks
+        → (task : Task) → Contains tasks task
+        → LiesIn task.source (array_sizes (G.dimensions source.now))
+        × LiesIn task.target (array_sizes (H.dimensions target.now)) }
+{}
+
+/// The shares of a list of tasks, one after another, are the tasks.
+pub fn shares_are_together_the_tasks()
+    ensures { (of : ℕ) → 0 < of → (tasks : List Task)
+        → flat_map (λ number. numbered_share number of tasks) (range_with_len 0 of) ≡ tasks }
+{}
+
 /// No chunk of the target is in two tasks, if its chunks are grouped, so no two tasks write one chunk. If the source's are, no two read one.
 pub fn no_chunk_is_in_two_tasks<G: ChunkGridTraits, H: ChunkGridTraits>(source: &G, target: &H)
     ensures by_target { (region : Box) (at each : List ℕ) (tasks : List Task)
@@ -71,7 +96,7 @@ pub fn no_chunk_is_in_two_tasks<G: ChunkGridTraits, H: ChunkGridTraits>(source: 
         → Meets (G.dimensions source.now) other.source chunk → ⊥) tasks }
 {}
 
-/// There are tasks of the copy of each region that lies in both arrays, for each list of chunks a task.
+/// There is a list of tasks for the copy of each region that lies in both arrays, and each list of chunks a task. It may be empty.
 pub fn there_are_tasks<G: ChunkGridTraits, H: ChunkGridTraits>(
     source: &G,
     target: &H,

@@ -1,11 +1,11 @@
 //! Tasks: a copy from one array to another by way of buffers.
 //!
 //! A task fills a buffer from the source's array and writes it to the target's. Its buffer is what a group of neighbouring chunks holds of the elements that are
-//! copied, so each chunk of the grouped array is in one task. [`tasks`] groups the target's chunks, [`tasks_by_source`] the source's.
+//! copied, so each chunk of the grouped array is in one task at most. [`tasks`] groups the target's chunks, [`tasks_by_source`] the source's.
 //! The plan [`parts`](zarrs_chunk_plan::parts) of a task's box in the source's array says what it reads, the plan of its other box what it writes.
 //!
 //! ```text
-//! 4 x 12 elements from chunks [1, 12] to chunks [4, 3], two chunks of the target a task
+//! 4 x 12 elements from chunks [1, 12] to chunks [4, 3], a task takes two chunks of the target along the second dimension
 //!   task [0, 0]  source [0..4, 0..6]   target [0..4, 0..6]
 //!   task [0, 1]  source [0..4, 6..12]  target [0..4, 6..12]
 //! ```

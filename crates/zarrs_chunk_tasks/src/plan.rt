@@ -17,7 +17,7 @@ use zarrs_chunks::ChunkGridTraits;
 
 /// Returns the tasks of the copy of a region, by groups of the target's chunks. The region is a box of the source's array; it goes to the box of its shape
 /// that begins at `at` in the target's array. Along each dimension a group joins `task_chunks` neighbouring chunks: if the numbers of two chunks, divided by
-/// `task_chunks`, are equal, they are in one group.
+/// `task_chunks` and rounded down, are equal, they are in one group.
 ///
 /// No chunk of the target is in two tasks. An empty region has no tasks; it lies in an array if its end does.
 ///

@@ -29,7 +29,7 @@ module _ {G : Type 0} where
   abbrev pub all_groups : Tasks G → List (List ℕ)
   all_groups walk = all_between walk.groups
 
-  -- the walk is over this grid, these numbers of its chunks a group, and this box of elements, from one index to another
+  -- the walk is over this grid, these numbers of its chunks a group, and this box of elements, which is copied from `first` on to `at` on
   pub record IsAboutTasks (grid : G) (each : List ℕ) (elements : Box) (first at : List ℕ) (walk : Tasks G) : Type 0 where
     pub same_grid : walk.grid.now ≡ grid
     pub same_each : map non_zero_u64_get walk.each.now ≡ each
@@ -37,9 +37,10 @@ module _ {G : Type 0} where
     pub same_first : walk.first.items ≡ first
     pub same_at : walk.at.items ≡ at
 
-  -- the walk knows the cover of the elements, and each group to come holds some of them
+  -- the walk knows the cover of the elements, and each group of all tasks holds some of them, so each to come does
   pub record CanGive (dimensions : G → List Dimension) (walk : Tasks G) : Type 0 where
     pub cover : (¬ IsEmptyBox walk.elements) → IsCover (dimensions walk.grid.now) walk.elements walk.cover
+    pub all : AllByRecursion (HoldsSomeOf (dimensions walk.grid.now) (map non_zero_u64_get walk.each.now) walk.elements) (all_groups walk)
     pub hold : AllByRecursion (HoldsSomeOf (dimensions walk.grid.now) (map non_zero_u64_get walk.each.now) walk.elements) (groups_to_come walk)
 
   -- the tasks that the walk has to give: one for each group to come

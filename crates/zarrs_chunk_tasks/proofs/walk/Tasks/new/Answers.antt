@@ -38,13 +38,14 @@ returns g c =
     let left : chunks_between c.in_ok-new.field-0 ≡ chunks_in groups =
     c.in_ok-new.ensures.left ∙ whole_is c.whole.result.number c.whole.result.of (chunks_in groups) c.whole.ensures.number c.whole.ensures.of
     in
+    let hold = all_of_each (HoldsSomeOf ds each c.args.elements) (chunks_in groups)
+    (λ group among. (are group).0 ((are_those_inside groups is_box group).0 among)) in
     rw (c.elements.view_is, c.cover.view_is) (record {
       about = record { same_grid = refl; same_each = refl; same_elements = refl; same_first = refl; same_at = refl };
       can = record {
         cover = λ some. (subst (AnswersCover ds c.args.elements) (c.in_ok-cover.ensures {u = tt}) (c.chunks_in_array_subset.ensures.answers (inl some))).1;
-        hold = rw left
-            (all_of_each (HoldsSomeOf ds each c.args.elements) (chunks_in groups)
-            (λ group among. (are group).0 ((are_those_inside groups is_box group).0 among)));
+        all = rw (ap chunks_in c.in_ok-new.ensures.chunks) hold;
+        hold = rw left hold;
       };
       groups = groups;
       is_box = is_box;

@@ -27,6 +27,7 @@ returns-in-Ok-task_of-clause-steps g c =
       about = record { same_grid = refl; same_each = refl; same_elements = refl; same_first = refl; same_at = refl };
       can = λ can. record {
         cover = can.cover;
+        all = rw (ap chunks_in steps.chunks) can.all;
         hold = (subst (AllByRecursion (HoldsSomeOf ds each before.elements)) gives can.hold).1;
       };
       all = ap chunks_in steps.chunks;
