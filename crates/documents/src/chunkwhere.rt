@@ -45,6 +45,8 @@ pub fn run_to_status<R: Read, W: Write, E: Write>(
     ensures told { result ≡ 1 → IfSome (E.contents (watched errors.old)) (λ held.
         TellsError (codes "chunkwhere") held (E.contents (watched errors.new))
         (has_failed errors.old) (has_failed errors.new)) }
+    ensures told_is_flushed { result ≡ 1 → has_failed errors.new ≡ false
+        → is_flushed errors.new ≡ true }
     ensures zero_or_one { result ≤ 1 }
 {
     let outcome = run(alloc, reader, writer);
@@ -104,6 +106,8 @@ pub fn finish<W: Write>(
     ensures told { OnErr outcome.now (IfSome (W.contents (watched errors.old)) (λ held.
         TellsError (codes "chunkwhere") held (W.contents (watched errors.new))
         (has_failed errors.old) (has_failed errors.new))) }
+    ensures flushed { OnErr outcome.now (has_failed errors.new ≡ false
+        → is_flushed errors.new ≡ true) }
 {
     streams::finish(alloc, "chunkwhere", outcome, errors)
 }

@@ -84,6 +84,8 @@ pub fn run_to_status<R: Read, W: Write, E: Write>(
     ensures told { result ≡ 1 → IfSome (E.contents (watched errors.old)) (λ held.
         TellsError (codes "chunkplan") held (E.contents (watched errors.new))
         (has_failed errors.old) (has_failed errors.new)) }
+    ensures told_is_flushed { result ≡ 1 → has_failed errors.new ≡ false
+        → is_flushed errors.new ≡ true }
     ensures zero_or_one { result ≤ 1 }
 {
     let outcome = run(alloc, reader, sink);
@@ -98,9 +100,9 @@ pub fn run_to_status<R: Read, W: Write, E: Write>(
 /// doesn't go with the others, then one that isn't of its form; a grid or an encoding that can't be made, then those of the target; a box with
 /// another number of dimensions; a box of elements that has no cover, where it isn't clipped to the array; a region that doesn't lie in the array, or
 /// in the target's; lines of one stage that would hold too many elements, no intermediate array, or too much to go through for either; a grid of the new
-/// shape that can't be made. If keys follow the document, then more lines than there are bits for, a failed read, and the first line that isn't UTF-8. If
-/// keys follow a document of several lines, this is the fault in place of no JSON. Nothing has been written then. After a failed write, or where memory
-/// runs out, a beginning of the plan may have been written.
+/// shape that can't be made. If keys follow the document, then more lines than there are bits for, and then a failed read or a line that isn't UTF-8,
+/// whichever comes first. If keys follow a document of several lines, this is the fault in place of no JSON. Nothing has been written then. After a
+/// failed write, or where memory runs out, a beginning of the plan may have been written.
 pub fn run<R: Read, W: Write>(
     alloc: Global,
     reader: &mut Watched<R>,
@@ -227,6 +229,8 @@ pub fn finish<W: Write>(
     ensures told { OnErr outcome.now (IfSome (W.contents (watched errors.old)) (λ held.
         TellsError (codes "chunkplan") held (W.contents (watched errors.new))
         (has_failed errors.old) (has_failed errors.new))) }
+    ensures flushed { OnErr outcome.now (has_failed errors.new ≡ false
+        → is_flushed errors.new ≡ true) }
 {
     streams::finish(alloc, "chunkplan", outcome, errors)
 }

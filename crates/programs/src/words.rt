@@ -1,10 +1,11 @@
 //! The words of a program's command line.
-ghost use Rattle.std.specs.Prelude.{◌≡◌, ◌++◌, ◌≤◌, IfErr, IfSome, None, OnErr, OnOk, Some, codes, true};
+ghost use Rattle.std.specs.Prelude.{◌≡◌, ◌++◌, ◌≤◌, IfErr, IfSome, None, OnErr, OnOk, Some, codes, false, true};
 ghost use Rattle.std.specs.Result.{result_map_both};
 ghost use Rattle.streams.specs.Told.{HasBegunText, TellsError};
 ghost use Rattle.streams.specs.Watched.{has_failed, is_flushed, watched};
 ghost use Rattle.streams.specs.declared.stream_fault.StreamFault.TheVariants.{Write as WriteFailed};
 ghost use Rattle.programs.specs.Words.{AnswersWords, asked_by};
+ghost use Rattle.programs.specs.declared.words.Asked.TheVariants.{Unknown};
 ghost use Rattle.programs.specs.declared.words.WordsFault.TheVariants.{Output};
 
 use std::alloc::Global;
@@ -94,6 +95,9 @@ pub fn answer_words<W: Write, E: Write>(
     ensures told { result ≡ Some 1 → IfSome (E.contents (watched errors.old)) (λ held.
         TellsError program.now held (E.contents (watched errors.new))
         (has_failed errors.old) (has_failed errors.new)) }
+    ensures told_is_flushed { result ≡ Some 1 → has_failed errors.new ≡ false
+        → is_flushed errors.new ≡ true }
+    ensures unknown_unwritten { asked ≡ Unknown → writer.new ≡ writer.old }
     ensures none_written { result ≡ None → writer.new ≡ writer.old }
     ensures none_told { result ≡ None → errors.new ≡ errors.old }
     ensures zero_or_one { IfSome result (λ status. status ≤ 1) }

@@ -17,7 +17,7 @@ pub struct Lines {
 }
 
 impl Lines {
-    ghost use Rattle.std.specs.Prelude.{◌≡◌, ◌<◌, ◌++◌, [], ℕ, List, IfErr, IfOk, IfSome, MatchResult, OnOk, Some, false, true};
+    ghost use Rattle.std.specs.Prelude.{◌≡◌, ◌<◌, ◌++◌, ◌∷◌, [], ℕ, List, IfErr, IfOk, IfSome, MatchResult, OnOk, Some, false, true};
     ghost use Rattle.std.specs.Io.BufRead.{drop_through, take_through};
     ghost use Rattle.streams.specs.Watched.{IsReadFailure, has_failed, watched};
     ghost use Rattle.streams.specs.seen.Lines.{IsCutOff, IsNextByte, left, unread};
@@ -53,6 +53,8 @@ impl Lines {
             (λ bytes. drop_through 10 bytes ≡ [])) }
         ensures longer { IfOk result (λ ended. ended ≡ true
             → length line.old.items < length line.new.items) }
+        ensures ended { IfOk result (λ ended. ended ≡ true → (text : List ℕ)
+            × (line.new.items ≡ line.old.items ++ (text ++ 10 ∷ []))) }
         ensures failed { MatchResult result (λ _. has_failed reader.new ≡ has_failed reader.old)
             (λ fault. IsReadFailure fault (has_failed reader.old) (has_failed reader.new)) }
         ensures cut { IfErr result (λ fault. fault ≡ ReadFailed

@@ -1,5 +1,5 @@
 //! Bytes from a reader and to a writer, and how a run that moved them ends.
-ghost use Rattle.std.specs.Prelude.{◌≡◌, [], ◌++◌, ℕ, List, IfErr, IfOk, IfSome, MatchResult, OnErr, OnOk, Some, codes, true};
+ghost use Rattle.std.specs.Prelude.{◌≡◌, [], ◌++◌, ℕ, List, IfErr, IfOk, IfSome, MatchResult, OnErr, OnOk, Some, codes, false, true};
 ghost use Rattle.streams.specs.OneLine.{IsOneLine, line_of};
 ghost use Rattle.streams.specs.Told.{TellsError};
 ghost use Rattle.streams.specs.Watched.{watched, has_failed, is_flushed, IsReadFailure};
@@ -103,6 +103,8 @@ pub fn finish<F: Display, W: Write>(
     ensures told { OnErr outcome.now (IfSome (W.contents (watched errors.old)) (λ held.
         TellsError program.now held (W.contents (watched errors.new))
         (has_failed errors.old) (has_failed errors.new))) }
+    ensures flushed { OnErr outcome.now (has_failed errors.new ≡ false
+        → is_flushed errors.new ≡ true) }
 {
     match outcome {
         Ok(()) => 0,
@@ -115,9 +117,10 @@ pub fn finish<F: Display, W: Write>(
 
 /// Writes an error in one line after the program's name, as far as it can be written.
 fn tell<F: Display, W: Write>(alloc: Global, program: &str, fault: &F, errors: &mut Watched<W>)
-    ensures { IfSome (W.contents (watched errors.old)) (λ held.
+    ensures told { IfSome (W.contents (watched errors.old)) (λ held.
         TellsError program.now held (W.contents (watched errors.new))
         (has_failed errors.old) (has_failed errors.new)) }
+    ensures flushed { has_failed errors.new ≡ false → is_flushed errors.new ≡ true }
 {
     let _ = match error_line(alloc, program, fault) {
         Ok(line) => write_all(errors, &line),

@@ -5,8 +5,8 @@ use Rattle.streams.proofs.Known.{for_known}
 use Rattle.streams.proofs.Told.{no_memory, on_err, written_unless_failed}
 use Rattle.streams.proofs.transfer.tell.Goals as goal
 
-pub returns-in-Err : goal.returns-in-Err
-returns-in-Err g c =
+pub returns-in-Err-clause-told : goal.returns-in-Err-clause-told
+returns-in-Err-clause-told g c =
     let write = c.write_all-in-Err in
     for_known (g.W.Write.contents (watched c.args.errors.now)) _ (λ held is. (
       codes "out of memory\n",

@@ -1,4 +1,4 @@
-use Rattle.std.proofs.Common.{◌∙◌, ap, arith, length, length-append, sym, ◌∷◌, [], Some}
+use Rattle.std.proofs.Common.{◌≡◌, ◌∙◌, ◌++◌, ap, ap₂, append_assoc, arith, length, length-append, sym, ◌∷◌, [], Some}
 use Rattle.std.proofs.lemmas.Result.{err_from_is_err_and}
 use Rattle.streams.specs.Watched.{watched}
 use Rattle.streams.specs.seen.Lines.{left}
@@ -29,6 +29,14 @@ returns-then-byte-eq10-clause-behind g c =
     let last = last_byte c.args.line.now.items c.loop-byte.line.items bytes c.in-Some.byte rest c.if-byte-eq10.true (rw is_byte at part) in
     now ∙ ap Some last.1)
 
+pub returns-then-byte-eq10-clause-ended : goal.returns-then-byte-eq10-clause-ended
+returns-then-byte-eq10-clause-ended g c = λ _.
+    let (text, is) = c.loop-byte.invariant.3 in
+    let feed : c.in-Some.byte ≡ 10 = c.if-byte-eq10.true in (
+      text,
+      c.in_ok-push.ensures.items ∙ ap₂ (λ items byte. items ++ byte ∷ []) is feed ∙ append_assoc c.args.line.now.items text (10 ∷ []),
+    )
+
 pub loop-byte-preserved : goal.loop-byte-preserved
 loop-byte-preserved g c =
     let many = length-append c.loop-byte.line.items (c.in-Some.byte ∷ []) in (
@@ -42,6 +50,11 @@ loop-byte-preserved g c =
           ),
       omega (arith, c.loop-byte.invariant.1, ap length c.in_ok-push.ensures.items),
       c.in_ok-byte.ensures.failed ∙ c.loop-byte.invariant.2,
+      (
+        c.loop-byte.invariant.3.0 ++ c.in-Some.byte ∷ [],
+        c.in_ok-push.ensures.items ∙ ap (λ items. items ++ c.in-Some.byte ∷ []) c.loop-byte.invariant.3.1
+            ∙ append_assoc c.args.line.now.items c.loop-byte.invariant.3.0 (c.in-Some.byte ∷ []),
+      ),
     )
 
 pub returns-clause-line : goal.returns-clause-line

@@ -1,4 +1,4 @@
-use Rattle.std.proofs.Common.{◌≡◌, ◌-◌, ◌^◌, ◌≤◌, ℕ, List, Some, length, vec_len}
+use Rattle.std.proofs.Common.{◌≡◌, ◌++◌, ◌-◌, ◌^◌, ◌≤◌, ℕ, List, Some, length, vec_len}
 use Rattle.streams.specs.Watched.{has_failed, watched}
 use Rattle.streams.specs.seen.Lines.{left}
 use Rattle.streams.proofs.LineBytes.{IsPartOfLine}
@@ -12,6 +12,7 @@ invariant-loop-byte g l =
     × IsPartOfLine l.initial.line.items l.line.items bytes rest)
     × (length l.initial.line.items ≤ length l.line.items)
     × (has_failed l.reader ≡ has_failed l.initial.reader)
+    × ((text : List ℕ) × (l.line.items ≡ l.initial.line.items ++ text))
 
 -- a Vec holds less than 2 ^ 63 bytes
 abbrev pub decreases-loop-byte : goal.decreases-loop-byte
