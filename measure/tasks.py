@@ -16,10 +16,14 @@ For each case there are lines with:
 
 A cost is a number of reads: what is decoded is divided by 2,500,000 elements, and added to the chunks that are read.
 
-`--table` prints one line a case: the plan's stages, reads, elements decoded over the array's, and cost; rechunker's reads and
-elements decoded; the plan's cost over rechunker's; and the same for a plan with as much memory as rechunker's takes, which
-counts the chunk that is being decoded; the plan's cost over the least; and the seconds of the search. A star says that two
-tasks of rechunker's plan would write one chunk.
+`--table` prints one line a case:
+
+- the plan's stages, reads, elements decoded over the array's, and cost;
+- rechunker's reads and elements decoded, and the plan's cost over rechunker's;
+- the same for a plan with as much memory as rechunker's takes, with the chunk that is being decoded;
+- the plan's cost over the least, and the seconds of the search.
+
+A star says that two tasks of rechunker's plan would write one chunk.
 """
 import math
 import pathlib

@@ -3,7 +3,7 @@
 
     python3 tools/chunk_tasks/test.py [SEED] [CASES]
 
-draws so many small rechunkings and copies of regions (2,000, if nothing is said), from each kind of grid to each. It prints
+draws small rechunkings and copies of regions, from each kind of grid to each: CASES of them, or 2,000. It prints
 what was compared, and ends with the status 1 at the first difference, which it prints with its case.
 """
 import collections
@@ -184,7 +184,7 @@ def check_product(case, sides, most, reads):
 
 
 def check_orders():
-    """The sizes that `one_stage` names: neither reads nor lengths go with the number of chunks in a group."""
+    """Checks the sizes that `one_stage` names: neither reads nor lengths rise or fall with the chunks in a group."""
     for side, sizes in [
         (Side(Chain(4, 2), Chain(4, 1)), [(2, 2, 2, 4), (3, 3, 3, 6)]),
         (Side(Chain(4, 3), Chain(4, 1)), [(2, 2, 3, 9), (3, 3, 2, 6)]),
@@ -196,7 +196,7 @@ def check_orders():
 
 
 def check_walk_back():
-    """Of the groups of 10, 11 and 16 that are kept here the smallest decode the least, and those of 11 the most."""
+    """Checks a case in which groups of 10, 11 and 16 are kept: groups of 10 decode the least, and groups of 11 the most."""
     sides = [Side(Chain(31, [9, 2, 1, 7, 2, 8, 2]), Chain(31, 1))]
     assert [size.decoded for size in unbeaten(sides[0]) if size.k in (10, 11, 16)] == [37, 39, 38]
     check_one_stage("groups of 10, 11 and 16", sides, 27, 0)

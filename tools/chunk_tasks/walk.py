@@ -4,9 +4,12 @@ import math
 
 
 def tasks(sides, sizes):
-    """Yields the tasks of a stage by the sizes of groups along each dimension: the buffer's shape, and the parts of chunks of
-    the source that fill it and of the target that it is written to. A part has the box in its chunk and that in the buffer;
-    one of the target says whether the chunk gets all elements that it has of its array."""
+    """Yields the tasks of a stage by the sizes of groups along each dimension.
+
+    A task has the buffer's shape, the parts of chunks of the source that fill it, and the parts of chunks of the target that
+    it is written to. A part has a box in its chunk and a box in the buffer. A part of the target says whether the chunk gets
+    all elements that it has of its array.
+    """
     for groups in itertools.product(*(list(side.groups(k)) for side, k in zip(sides, sizes))):
         read = [parts(side.source, side.first, side.source.size, *group) for side, group in zip(sides, groups)]
         written = [parts(side.target, side.at, side.target.size, *group) for side, group in zip(sides, groups)]
@@ -18,8 +21,11 @@ def tasks(sides, sizes):
 
 
 def parts(chain, first, size, start, end):
-    """Returns the parts of a group along one dimension that are of one chunk each: the chunk, its whole edge, where the part
-    begins there and in the buffer, how long it is, and whether it is all that the chunk has of the array."""
+    """Returns the parts of a group along one dimension, each of one chunk.
+
+    A part has the chunk, its whole edge, where the part begins there and in the buffer, how long it is, and whether it is all
+    that the chunk has of the array.
+    """
     found = []
     for chunk in range(chain.holder(first + start), chain.holder(first + end - 1) + 1):
         begins, ends = chain.start(chunk), chain.start(chunk + 1)
