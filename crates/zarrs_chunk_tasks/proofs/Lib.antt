@@ -1,7 +1,11 @@
+mod CountsOfEach
 mod GroupBoxes
-mod GroupsAlong
+mod GroupCounts
+mod Grouped
 mod Sharing
 mod SomeTasks
+mod SumsAlong
+mod TaskCounts
 mod TaskLaws
 mod TaskParts
 mod WalkedTasks

@@ -216,7 +216,7 @@ module _ {ds : List Dimension} {each : List ℕ} {elements : Box} {first at : Li
 -- ---- both boxes of a task lie in their arrays
 
 -- a box that lies in another one, counted from its first element, ends within its shape
-ends_inside : (start steps sizes shape index : List ℕ) → length steps ≡ length start → AreWithin (counted_from start steps) sizes index
+pub ends_inside : (start steps sizes shape index : List ℕ) → length steps ≡ length start → AreWithin (counted_from start steps) sizes index
     → ((x : List ℕ) → AreWithin (counted_from start steps) sizes x → AreWithin start shape x) → EndWithin steps sizes shape
 ends_inside [] [] [] shape [] same within inside = none shape (inside [] tt) where
   none : (shape : List ℕ) → AreWithin [] shape [] → EndWithin [] [] shape
@@ -238,7 +238,7 @@ ends_inside [] (_ ∷ _) sizes shape index same within inside = absurd (omega ar
 ends_inside (_ ∷ _) [] sizes shape index same within inside = absurd (omega arith)
 
 -- and so does the box from elsewhere on
-still_within : (first steps sizes shape array : List ℕ) → EndWithin steps sizes shape → EndWithin first shape array
+pub still_within : (first steps sizes shape array : List ℕ) → EndWithin steps sizes shape → EndWithin first shape array
     → EndWithin (counted_from first steps) sizes array
 still_within [] [] [] [] [] ends lies = tt
 still_within (f ∷ first) (n ∷ steps) (m ∷ sizes) (k ∷ shape) (a ∷ array) ends lies =
@@ -266,22 +266,22 @@ module _ {ds : List Dimension} {each : List ℕ} {elements : Box} {first at : Li
 
 module _ (source target : List Dimension) (region : Box) (at each : List ℕ) (has : HasTasks (array_sizes source) (array_sizes target) region at each)
     (tasks : List Task) where
-  source_long : length (array_sizes source) ≡ length source
+  pub source_long : length (array_sizes source) ≡ length source
   source_long = length-map source (λ (d : Dimension). d.array_size)
 
-  target_long : length (array_sizes target) ≡ length target
+  pub target_long : length (array_sizes target) ≡ length target
   target_long = length-map target (λ (d : Dimension). d.array_size)
 
-  region_starts : length region.start ≡ length (array_sizes source)
+  pub region_starts : length region.start ≡ length (array_sizes source)
   region_starts = within_starts region.start region.shape (array_sizes source) has.can.in_source
 
-  region_sizes : length region.shape ≡ length (array_sizes source)
+  pub region_sizes : length region.shape ≡ length (array_sizes source)
   region_sizes = within_long region.start region.shape (array_sizes source) has.can.in_source
 
-  at_starts : length at ≡ length (array_sizes target)
+  pub at_starts : length at ≡ length (array_sizes target)
   at_starts = within_starts at region.shape (array_sizes target) has.can.in_target
 
-  at_sizes : length region.shape ≡ length (array_sizes target)
+  pub at_sizes : length region.shape ≡ length (array_sizes target)
   at_sizes = within_long at region.shape (array_sizes target) has.can.in_target
 
   pub copy_by_target : AllByRecursion IsChain target → AreTasksByTarget target each region at tasks → AreTheCopy region at tasks

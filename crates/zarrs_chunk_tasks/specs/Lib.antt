@@ -1,3 +1,4 @@
+pub mod Counts
 pub mod Groups
 pub mod Tasks
 pub mod seen

@@ -1,2 +1,4 @@
+pub mod Counts
 pub mod GroupNumbers
+pub mod Grouped
 pub mod Tasks

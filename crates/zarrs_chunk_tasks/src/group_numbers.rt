@@ -55,7 +55,7 @@ pub(crate) fn first_chunks(
     Ok(chunks)
 }
 
-fn first_chunk(each: NonZeroU64, group: u64, first: u64) -> u64
+pub(crate) fn first_chunk(each: NonZeroU64, group: u64, first: u64) -> u64
     ensures { result ≡ max (min (group * non_zero_u64_get each) greatest) first }
 {
     group.saturating_mul(each.get()).max(first)
@@ -79,7 +79,7 @@ pub(crate) fn last_chunks(
     Ok(chunks)
 }
 
-fn last_chunk(each: NonZeroU64, group: u64, last: u64) -> u64
+pub(crate) fn last_chunk(each: NonZeroU64, group: u64, last: u64) -> u64
     ensures { result ≡ min (min (group * non_zero_u64_get each
         + (non_zero_u64_get each - 1)) greatest) last }
 {

@@ -15,19 +15,24 @@
 //! | `task` | one task |
 //! | `plan` | the tasks of a copy |
 //! | `walk` | the walk over them, one after another |
+//! | `counts` | how much they read and write, without a walk |
+//! | `groups_along` | the same along one dimension |
 //! | `buffer` | what a group holds of a box of elements |
 //! | `group_numbers` | the groups of chunks, and the chunks of a group |
 //! | `laws` | what holds of the tasks of every copy |
 #![tactic(auto)]
 
 mod buffer;
+mod counts;
 mod group_numbers;
+mod groups_along;
 pub mod laws;
 mod plan;
 mod task;
 mod tasks_error;
 mod walk;
 
+pub use counts::{CountsAlong, task_counts, task_counts_by_source};
 pub use plan::{tasks, tasks_by_source};
 pub use task::Task;
 pub use tasks_error::TasksError;

@@ -86,7 +86,7 @@ pub fn tasks_by_source<'a, G: ChunkGridTraits, H: ChunkGridTraits>(
 ///
 /// # Errors
 /// As of [`tasks`].
-fn moved_region<G: ChunkGridTraits, H: ChunkGridTraits>(
+pub(crate) fn moved_region<G: ChunkGridTraits, H: ChunkGridTraits>(
     alloc: Global,
     source: &G,
     target: &H,

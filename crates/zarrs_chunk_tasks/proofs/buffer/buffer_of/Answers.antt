@@ -1,4 +1,4 @@
-use Rattle.zarrs_chunk_tasks.proofs.GroupBoxes.{buffer_is, first_meets, last_meets}
+use Rattle.zarrs_chunk_tasks.proofs.GroupBoxes.{buffer_is, first_meets, group_long, last_meets}
 use Rattle.zarrs_chunk_tasks.proofs.buffer.buffer_of.Goals as goal
 
 pub returns-clause-buffer : goal.returns-clause-buffer
@@ -17,6 +17,7 @@ returns-clause-buffer g c = λ is holds.
     let is_box = c.is_a_box.ensures in
     let shape = rw (c.start-2.ensures.value, c.start-3.ensures.value, c.shape.ensures.value) at (c.in_ok-shape.ensures {u = tt}) in
     let start = rw c.start-4.ensures.value at c.in_ok-start.ensures.items in
+    let many = group_long ds each group holds.0 holds.2 in
     rw (c.in_ok-made_box.ensures.value, start, shape)
-    (buffer_is ds each elements cover group chains is_box is holds _ _ _ _ (begins (first_meets ds each elements cover group chains is_box is holds))
-    (ends (last_meets ds each elements cover group chains is_box is holds)))
+    (buffer_is ds each chains many elements cover is_box is group holds _ _ _ _ (begins (first_meets ds each chains many elements cover is_box is group holds))
+    (ends (last_meets ds each chains many elements cover is_box is group holds)))

@@ -30,5 +30,4 @@ returns-clause-groups g c =
     let last = rw (c.deref.ensures.value, last_is) at (c.in_ok-last-2.ensures {u = tt}) in
     let counts = rw (c.deref-2.ensures.value, c.deref-3.ensures.value, first, last) at (c.in_ok-counts.ensures {u = tt}) in
     rw (c.in_ok-made_box.ensures.value, first, counts)
-    (groups_named ds each elements cover (g.met.G.ChunkGridTraits.chained c.args.grid.now) c.is_a_box.ensures some (c.requires.cover some)
-    c.requires.lengths)
+    (groups_named ds each (g.met.G.ChunkGridTraits.chained c.args.grid.now) c.requires.lengths elements cover c.is_a_box.ensures (c.requires.cover some) some)

@@ -1,6 +1,5 @@
-use Rattle.std.proofs.Common.{◌≡◌, ◌≢◌, ◌∙◌, ℕ, zero, suc, List, ap, append-nil, inl, refl, subst, sym, length, arith, map}
+use Rattle.std.proofs.Common.{◌≡◌, ◌∙◌, ℕ, List, ap, append-nil, inl, refl, subst, sym, length, arith, map}
 use Rattle.std.specs.Int.NonZero.{non_zero_u64_get}
-use Rattle.zarrs_chunk_base.specs.ArraySubset.{IsEmptyBox, zero_box}
 use Rattle.zarrs_chunks.proofs.ChunksInBoxes.{are_those_inside}
 use Rattle.zarrs_chunks.specs.Subsets.{AnswersCover, AnswersEmptyCover}
 use Rattle.zarrs_chunks.specs.Walks.{chunks_in}
@@ -10,12 +9,8 @@ use Rattle.zarrs_chunk_plan.proofs.ShareLists.{shares_are_all}
 use Rattle.zarrs_chunk_plan.specs.Shares.{numbered_share}
 use Rattle.zarrs_chunk_plan.specs.seen.ChunkIter.{chunks_between}
 use Rattle.zarrs_chunk_tasks.specs.Groups.{HoldsSomeOf}
+use Rattle.zarrs_chunk_tasks.proofs.GroupBoxes.{zeros_empty}
 use Rattle.zarrs_chunk_tasks.proofs.walk.Tasks.new.Goals as goal
-
--- so many ranges from 0 to 0 are empty, if there are some
-zeros_empty : (n : ℕ) → n ≢ 0 → IsEmptyBox (zero_box n)
-zeros_empty zero some = absurd (some refl)
-zeros_empty (suc n) some = (0, omega arith, refl)
 
 -- the one share that is all
 whole_is : {X : Type 0} (number of : ℕ) (xs : List X) → number ≡ 0 → of ≡ 1 → numbered_share number of xs ≡ xs

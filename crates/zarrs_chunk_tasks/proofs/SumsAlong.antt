@@ -1,0 +1,185 @@
+-- What is counted of a range of indices, and of the groups that hold some of it, along one dimension.
+use Rattle.std.proofs.Common.{◌≡◌, ◌∙◌, ℕ, zero, suc, ◌+◌, ◌-◌, ◌*◌, ◌<◌, ◌≤◌, IsTrue, List, [], ◌∷◌, ◌++◌, fold, length, map, max, min, refl, ap, ap₂}
+use Rattle.std.proofs.Common.{subst, sym, ⊎_elim, arith}
+use Rattle.std.proofs.lemmas.Bool.{cases_lt, le-ltb, lt-ltb}
+use Rattle.std.proofs.lemmas.List.FromFn.{map-range_with_len_more, sum_by-map-range_with_len_more}
+use Rattle.std.proofs.lemmas.List.Sums.{fold-append}
+use Rattle.std.specs.List.{AllByRecursion, range_with_len, sum}
+use Rattle.zarrs_chunk_base.specs.Dimension.{Dimension, Holds, IsChain}
+use Rattle.zarrs_chunk_base.specs.Greatest.{greatest}
+use Rattle.zarrs_chunk_axes.specs.Along.{Along, IsRange}
+use Rattle.zarrs_chunks.proofs.Chains.{apart, at_most_start, in_chain, no_later}
+use Rattle.zarrs_chunk_plan.proofs.MetChunks.{met_at_most, met_is}
+use Rattle.zarrs_chunk_plan.specs.seen.Sources.{TakesSome, home, home_from, met, taken, taken_from}
+use Rattle.zarrs_chunk_tasks.specs.declared.groups_along.Met.{Met}
+use Rattle.zarrs_chunk_tasks.specs.declared.groups_along.Sums.{Sums}
+use Rattle.zarrs_chunk_tasks.specs.seen.Counts.{AreMetAlong, AreOver, AreSums, AreTaking, IsTaken, indices, of_group, whole}
+use Rattle.zarrs_chunk_tasks.specs.seen.Grouped.{grouped}
+use Rattle.zarrs_chunk_tasks.proofs.GroupBoxes.{Reaches, first_in, last_in}
+use Rattle.zarrs_chunk_tasks.proofs.Grouped.{grouped_chain}
+
+-- ---- the dimension of a number
+
+pub record One (ds : List Dimension) (k : ℕ) : Type 1 where
+  pub d : Dimension
+  pub chain : IsChain d
+  pub at : (Q : Dimension → Type 0) → Along Q ds k → Q d
+  pub back : (Q : Dimension → Type 0) → Q d → Along Q ds k
+
+pub one : (ds : List Dimension) (k : ℕ) → AllByRecursion IsChain ds → k < length ds → One ds k
+one [] k chains within = absurd (omega arith)
+one (d ∷ ds) zero chains within = record { d = d; chain = chains.0; at = λ Q has. has; back = λ Q has. has }
+one (d ∷ ds) (suc k) chains within =
+    let rest = one ds k chains.1 (omega arith) in record { d = rest.d; chain = rest.chain; at = rest.at; back = rest.back }
+
+pub along_within : (P : Dimension → Type 0) (ds : List Dimension) (k : ℕ) → Along P ds k → k < length ds
+along_within P [] k has = absurd has
+along_within P (d ∷ ds) zero has = omega arith
+along_within P (d ∷ ds) (suc k) has = let rest = along_within P ds k has in omega arith
+
+-- ---- the chunks that hold some of a range
+
+-- the chunk that holds an index is found among those it is looked for
+home_from_is : (d : Dimension) → IsChain d → (many first c i : ℕ) → Holds d c i → first ≤ c → c ≤ first + many → home_from d many first i ≡ c
+home_from_is d chain zero first c i here from below = omega arith
+home_from_is d chain (suc many) first c i here from below =
+    ⊎_elim
+    (λ (ended : i < d.end first).
+    let not_after : c ≤ first =
+    ⊎_elim (λ (later : first < c). absurd (omega (arith, apart d chain first c later here.chunk, here.from))) (λ (le : c ≤ first). le) (cases_lt first c)
+    in
+    let same : first ≡ c = omega arith in
+    rw (lt-ltb i (d.end first) ended) same)
+    (λ (after : d.end first ≤ i).
+    let later : first < c =
+    ⊎_elim (λ (less : first < c). less)
+    (λ (le : c ≤ first). let same : c ≡ first = omega arith in absurd (omega (arith, ap d.end same, here.below))) (cases_lt first c)
+    in
+    rw (le-ltb i (d.end first) after) (home_from_is d chain many (suc first) c i here (omega arith) (omega arith)))
+    (cases_lt i (d.end first))
+
+pub home_is : (d : Dimension) → IsChain d → (c i : ℕ) → Holds d c i → home d i ≡ c
+home_is d chain c i here = home_from_is d chain i 0 c i here (omega arith) (omega (arith, at_most_start d chain c here.chunk, here.from))
+
+pub whole_is : (d : Dimension) → IsChain d → (low high first size : ℕ) → Holds d low first → Holds d high (first + (size - 1))
+    → whole d first size ≡ d.end high - d.start low
+unfolding whole
+whole_is d chain low high first size lowest highest = rw (home_is d chain low first lowest, home_is d chain high (first + (size - 1)) highest) refl
+
+-- what is found is what is counted
+pub found_is : (d : Dimension) → IsChain d → (low high first size start edge last_start last_edge : ℕ) → 0 < size → first + size ≤ greatest
+    → last_edge ≤ greatest → Holds d low first → Holds d high (first + (size - 1)) → IsRange d low (start, edge) → IsRange d high (last_start, last_edge)
+    → (found : Met) → found.chunks ≡ min (high - low + 1) greatest → found.elements ≡ last_start - start + last_edge → AreMetAlong d first size found
+found_is d chain low high first size start edge last_start last_edge some fits small lowest highest range last_range found chunks elements =
+    let many = met_is d chain low high first size lowest highest in
+    let few = met_at_most d chain low high first size some lowest highest in
+    let order = no_later d chain low high first (first + (size - 1)) (omega arith) lowest highest in
+    let (in_order, _) = in_chain d chain low high order highest.chunk in
+    let counted : found.chunks ≡ suc high - low = omega (arith, chunks, many, few) in
+    record {
+      chunks = counted ∙ sym many;
+      elements = elements ∙ (omega (arith, in_order, range.start.start, last_range.start.start, last_range.edge.edge))
+          ∙ sym (whole_is d chain low high first size lowest highest);
+      few = omega (arith, counted, many, few);
+      small =
+          ⊎_elim (λ (later : low < high). omega (arith, counted, elements, small, last_range.start.start, highest.from))
+          (λ (le : high ≤ low).
+          let same : high ≡ low = omega arith in
+          omega (arith, counted, elements, small, ap d.start same, range.start.start, last_range.start.start)) (cases_lt low high);
+    }
+
+-- ---- what a group takes
+
+pub taken_is : (d : Dimension) (k a n f l t start edge last_start last_edge before end : ℕ) → Reaches d k a n f l t → a + n ≤ greatest
+    → IsRange d (first_in k f t) (start, edge) → IsRange d (last_in k l t) (last_start, last_edge) → before ≡ start - a
+    → end ≡ min (min (last_start + last_edge) greatest - a) n → IsTaken d k a n t (before, end - before)
+taken_is d k a n f l t start edge last_start last_edge before end is fits range last_range before_is end_is =
+    let from = range.start.start in
+    let to = last_range.edge.edge in
+    let to_start = last_range.start.start in
+    let (has, some) = is.last_takes in
+    record {
+      before = omega (arith, is.start, before_is, from);
+      many = omega (arith, is.start, is.end, before_is, end_is, from, to, to_start, some);
+    }
+
+-- ---- the sums so far
+
+pub record SumsSoFar (k at size group groups many first : ℕ) (d other : Dimension) (found : Sums) : Type 0 where
+  pub sums : AreSums k at size group many first d other found
+  -- chunks are no more than the indices that came before
+  pub few : many < groups → found.chunks + at ≤ taken_from (grouped d k) at (group + many)
+  pub few_in_all : found.chunks ≤ size
+  pub small : found.elements ≤ found.chunks * greatest
+
+pub none_so_far : (k at size group groups first : ℕ) (d other : Dimension) (sums : Sums) → sums.largest ≡ 0 → sums.chunks ≡ 0 → sums.elements ≡ 0
+    → SumsSoFar k at size group groups 0 first d other sums
+none_so_far k at size group groups first d other sums largest chunks elements = record {
+  sums = record { largest = largest; chunks = chunks; elements = elements };
+  few = λ some. omega (arith, chunks);
+  few_in_all = omega (arith, chunks);
+  small = omega (arith, chunks, elements);
+}
+
+-- the greatest number of 128 bits
+abbrev pub greatest_of_128 : ℕ
+greatest_of_128 = 340282366920938463463374607431768211455
+
+greatest_more : (f : ℕ → ℕ) (begin many : ℕ)
+    → fold max 0 (map f (range_with_len begin (many + 1))) ≡ max (fold max 0 (map f (range_with_len begin many))) (f (begin + many))
+greatest_more f begin many =
+    ap (fold max 0) (map-range_with_len_more f begin many (begin + many) refl)
+    ∙ fold-append max 0 (map f (range_with_len begin many)) (f (begin + many) ∷ [])
+
+pub sum_more : (f : ℕ → ℕ) (begin many : ℕ) → sum (map f (range_with_len begin (many + 1))) ≡ sum (map f (range_with_len begin many)) + f (begin + many)
+sum_more f begin many = sum_by-map-range_with_len_more (λ n. n) f begin many (begin + many) refl
+
+pub takes_here : (d : Dimension) (k at size first_chunk last_chunk group groups many : ℕ) → AreTaking k at size first_chunk last_chunk group groups d
+    → many < groups → TakesSome (grouped d k) at size (group + many)
+takes_here d k at size first_chunk last_chunk group groups many taking within = taking.take (group + many) (omega arith) (omega arith)
+
+module _ (d other : Dimension) (k at size first_chunk last_chunk group groups first many : ℕ) (chain : IsChain d) (some : 0 < k)
+    (taking : AreTaking k at size first_chunk last_chunk group groups d) (within : many < groups) where
+  abbrev g : Dimension
+  g = grouped d k
+
+  abbrev here : ℕ
+  here = group + many
+
+  -- a group takes no index that one before it takes
+  follows : many + 1 < groups → min (g.end here) (at + size) ≤ taken_from g at (group + (many + 1))
+  follows next =
+      let after : group + (many + 1) ≡ here + 1 = omega arith in
+      let (has, any) = taking.take (group + (many + 1)) (omega arith) (omega arith) in
+      let (_, gap) = (grouped_chain d k chain some).no_gap here (subst (λ t. IsTrue (g.has_chunk t)) after has) in
+      omega (arith, ap g.start after, gap)
+
+  pub one_more : (before many_here : ℕ) → IsTaken d k at size here (before, many_here) → (found : Met)
+      → AreMetAlong other (first + before) many_here found → (sums after : Sums) → SumsSoFar k at size group groups many first d other sums
+      → after.largest ≡ max sums.largest many_here → after.chunks ≡ min (sums.chunks + found.chunks) greatest
+      → after.elements ≡ min (sums.elements + found.elements) greatest_of_128
+      → SumsSoFar k at size group groups (many + 1) first d other after
+  one_more before many_here is found are sums after so_far largest chunks elements =
+      let (_, any) = takes_here d k at size first_chunk last_chunk group groups many taking within in
+      let over = taking.over in
+      let fits = over.fits in
+      let some_before = so_far.few within in
+      let chunks_here : found.chunks ≡ of_group met other g first at size here = rw (← is.before, ← is.many) are.chunks in
+      let elements_here : found.elements ≡ of_group whole other g first at size here = rw (← is.before, ← is.many) are.elements in
+      let few_here = are.few in
+      let small_here = are.small in
+      let small = so_far.small in
+      let chunks_are : after.chunks ≡ sums.chunks + found.chunks = omega (arith, chunks, some_before, few_here, is.many) in
+      let few : after.chunks + at ≤ min (g.end here) (at + size) = omega (arith, chunks_are, some_before, few_here, is.many) in
+      let small_after : sums.elements + found.elements ≤ after.chunks * greatest = omega (arith, chunks_are) in
+      let elements_are : after.elements ≡ sums.elements + found.elements = omega (arith, elements, small_after, few) in
+      record {
+        sums = record {
+          largest = largest ∙ ap₂ max so_far.sums.largest is.many ∙ sym (greatest_more (of_group indices other g first at size) group many);
+          chunks = chunks_are ∙ ap₂ ◌+◌ so_far.sums.chunks chunks_here ∙ sym (sum_more (of_group met other g first at size) group many);
+          elements = elements_are ∙ ap₂ ◌+◌ so_far.sums.elements elements_here ∙ sym (sum_more (of_group whole other g first at size) group many);
+        };
+        few = λ next. let after_here = follows next in omega (arith, few);
+        few_in_all = omega (arith, few);
+        small = omega (arith, elements_are, small_after);
+      }

@@ -1,0 +1,93 @@
+use Rattle.std.proofs.Common.{◌≡◌, ◌+◌, arith, max, refl, subst, sym}
+use Rattle.std.specs.Int.NonZero.{non_zero_u64_get}
+use Rattle.zarrs_chunk_plan.specs.seen.Sources.{TakesSome}
+use Rattle.zarrs_chunk_tasks.specs.seen.Counts.{AreMetAlong, IsTaken}
+use Rattle.zarrs_chunk_tasks.specs.seen.Grouped.{grouped}
+use Rattle.zarrs_chunk_tasks.proofs.SumsAlong.{along_within, none_so_far, one, one_more, takes_here}
+use Rattle.zarrs_chunk_tasks.proofs.groups_along.sums_along.Goals as goal
+
+pub loop-steps-init : goal.loop-steps-init
+loop-steps-init g c =
+    let groups = c.args.groups.now in
+    let ds = g.K.ChunkGridTraits.dimensions groups.grid.now in
+    let it = one ds groups.dimension (g.met.K.ChunkGridTraits.chained groups.grid.now) (along_within _ ds groups.dimension c.requires.groups) in
+    let other = one _ groups.dimension (g.met.G.ChunkGridTraits.chained c.args.other.now) c.requires.other in
+    it.back _ (other.back _ (none_so_far (non_zero_u64_get groups.each) groups.at groups.size groups.group groups.groups c.args.first it.d other.d _ refl refl refl))
+
+pub range_of-requires-clause-over : goal.range_of-requires-clause-over
+range_of-requires-clause-over g c =
+    let groups = c.args.groups.now in
+    let ds = g.K.ChunkGridTraits.dimensions groups.grid.now in
+    let it = one ds groups.dimension (g.met.K.ChunkGridTraits.chained groups.grid.now) (along_within _ ds groups.dimension c.requires.groups) in
+    let taking = it.at _ c.requires.groups in
+    it.back _ taking.over
+
+pub range_of-requires-clause-takes : goal.range_of-requires-clause-takes
+range_of-requires-clause-takes g c =
+    let groups = c.args.groups.now in
+    let ds = g.K.ChunkGridTraits.dimensions groups.grid.now in
+    let it = one ds groups.dimension (g.met.K.ChunkGridTraits.chained groups.grid.now) (along_within _ ds groups.dimension c.requires.groups) in
+    let taking = it.at _ c.requires.groups in
+    let group_is : groups.group + c.loop-steps.steps ≡ c.saturating_add-group.result =
+    omega (arith, c.saturating_add-group.ensures, taking.groups_fit, c.loop-steps-test.true) in
+    it.back _
+    (subst (TakesSome (grouped it.d (non_zero_u64_get groups.each)) groups.at groups.size) group_is
+    (takes_here it.d (non_zero_u64_get groups.each) groups.at groups.size groups.first groups.last groups.group groups.groups c.loop-steps.steps taking
+    c.loop-steps-test.true))
+
+pub met_along-requires-clause-some : goal.met_along-requires-clause-some
+met_along-requires-clause-some g c =
+    let groups = c.args.groups.now in
+    let ds = g.K.ChunkGridTraits.dimensions groups.grid.now in
+    let it = one ds groups.dimension (g.met.K.ChunkGridTraits.chained groups.grid.now) (along_within _ ds groups.dimension c.requires.groups) in
+    let taking = it.at _ c.requires.groups in
+    let is = it.at _ (c.in_ok-before.ensures {u = tt}) in
+    let (_, takes) = taking.take c.saturating_add-group.result (omega (arith, c.saturating_add-group.ensures, taking.groups_fit, c.loop-steps-test.true))
+    (omega (arith, c.saturating_add-group.ensures, taking.groups_fit, c.loop-steps-test.true)) in
+    omega (arith, is.many, takes)
+
+pub met_along-requires-clause-fits : goal.met_along-requires-clause-fits
+met_along-requires-clause-fits g c =
+    let groups = c.args.groups.now in
+    let ds = g.K.ChunkGridTraits.dimensions groups.grid.now in
+    let it = one ds groups.dimension (g.met.K.ChunkGridTraits.chained groups.grid.now) (along_within _ ds groups.dimension c.requires.groups) in
+    let taking = it.at _ c.requires.groups in
+    let is = it.at _ (c.in_ok-before.ensures {u = tt}) in
+    let (_, takes) = taking.take c.saturating_add-group.result (omega (arith, c.saturating_add-group.ensures, taking.groups_fit, c.loop-steps-test.true))
+    (omega (arith, c.saturating_add-group.ensures, taking.groups_fit, c.loop-steps-test.true)) in
+    omega (arith, is.before, is.many, takes, c.saturating_add-from.ensures, c.requires.first)
+
+pub loop-steps-preserved : goal.loop-steps-preserved
+loop-steps-preserved g c =
+    let groups = c.args.groups.now in
+    let k = non_zero_u64_get groups.each in
+    let ds = g.K.ChunkGridTraits.dimensions groups.grid.now in
+    let it = one ds groups.dimension (g.met.K.ChunkGridTraits.chained groups.grid.now) (along_within _ ds groups.dimension c.requires.groups) in
+    let other = one _ groups.dimension (g.met.G.ChunkGridTraits.chained c.args.other.now) c.requires.other in
+    let taking = it.at _ c.requires.groups in
+    let so_far = other.at _ (it.at _ c.loop-steps.invariant) in
+    let is = it.at _ (c.in_ok-before.ensures {u = tt}) in
+    let group_is : c.saturating_add-group.result ≡ groups.group + c.loop-steps.steps =
+    omega (arith, c.saturating_add-group.ensures, taking.groups_fit, c.loop-steps-test.true) in
+    let (_, takes) = takes_here it.d k groups.at groups.size groups.first groups.last groups.group groups.groups c.loop-steps.steps taking
+    c.loop-steps-test.true in
+    let is_here = subst (λ t. IsTaken it.d k groups.at groups.size t (c.in_ok-before.before, c.in_ok-before.size)) group_is is in
+    let from : c.saturating_add-from.result ≡ c.args.first + c.in_ok-before.before =
+    omega (arith, is_here.before, is_here.many, takes, c.saturating_add-from.ensures, c.requires.first) in
+    let met = other.at _ (c.in_ok-met.ensures {u = tt}) in
+    it.back _
+    (other.back _
+    (one_more it.d other.d k groups.at groups.size groups.first groups.last groups.group groups.groups c.args.first c.loop-steps.steps it.chain groups.each.ok
+    taking c.loop-steps-test.true c.in_ok-before.before c.in_ok-before.size is_here c.in_ok-met.met
+    (subst (λ n. AreMetAlong other.d n c.in_ok-before.size c.in_ok-met.met) from met) c.loop-steps.sums _ so_far (omega (arith, c.max.ensures))
+    c.saturating_add.ensures c.saturating_add-in-loop-steps.ensures))
+
+pub returns : goal.returns
+returns g c =
+    let groups = c.args.groups.now in
+    let ds = g.K.ChunkGridTraits.dimensions groups.grid.now in
+    let it = one ds groups.dimension (g.met.K.ChunkGridTraits.chained groups.grid.now) (along_within _ ds groups.dimension c.requires.groups) in
+    let other = one _ groups.dimension (g.met.G.ChunkGridTraits.chained c.args.other.now) c.requires.other in
+    let so_far = other.at _ (it.at _ c.loop-steps.invariant) in
+    let ended : c.loop-steps.steps ≡ groups.groups = omega (arith, c.loop-steps-test.false, c.loop-steps.auto.steps-end) in
+    it.back _ (other.back _ (rw ended at so_far.sums))

@@ -1,0 +1,36 @@
+-- How much the tasks of a copy read and write. Each count is a product of numbers, one a dimension.
+-- Source: this library's own.
+use Rattle.std.specs.Prelude.{◌≡◌, ◌≢◌, ◌↔◌, ℕ, List, fold, length, map, max}
+use Rattle.std.specs.List.{AllPairs, AllZip, Contains, sum}
+use Rattle.zarrs_chunk_base.specs.ArraySubset.{Box}
+use Rattle.zarrs_chunk_base.specs.Dimension.{Dimension, IsShape}
+use Rattle.zarrs_chunk_parts.specs.Plan.{Meets}
+use Rattle.zarrs_chunk_plan.specs.Counts.{product}
+use Rattle.zarrs_chunk_tasks.specs.declared.counts.CountsAlong.{CountsAlong}
+use Rattle.zarrs_chunk_tasks.specs.declared.task.Task.{Task}
+
+-- So many chunks hold some of a box of elements, and so many elements these chunks have, whole.
+pub record AreMet (ds : List Dimension) (b : Box) (met : ℕ × ℕ) : Type 0 where
+  pub chunks : List (List ℕ)
+  pub once : AllPairs (λ one other. one ≢ other) chunks
+  pub are_those : (chunk : List ℕ) → Contains chunks chunk ↔ Meets ds b chunk
+  pub many : length chunks ≡ met.0
+  pub shapes : List (List ℕ)
+  pub are_shapes : AllZip (IsShape ds) chunks shapes
+  pub elements : sum (map product shapes) ≡ met.1
+
+-- a count of all dimensions together
+abbrev pub in_all : (CountsAlong → ℕ) → List CountsAlong → ℕ
+in_all count along = product (map count along)
+
+-- The counts of tasks from one array to another. A chunk that several tasks read, or write, counts in each.
+pub record AreTaskCounts (source target : List Dimension) (all : List Task) (along : List CountsAlong) : Type 0 where
+  pub tasks : in_all (λ counts. counts.tasks) along ≡ length all
+  pub largest_task : in_all (λ counts. counts.largest_task) along ≡ fold max 0 (map (λ (task : Task). product task.source.shape) all)
+  pub reads : List (ℕ × ℕ)
+  pub are_reads : AllZip (λ (task : Task). AreMet source task.source) all reads
+  pub chunks_read : in_all (λ counts. counts.chunks_read) along ≡ sum (map (λ read. read.0) reads)
+  pub elements_decoded : in_all (λ counts. counts.elements_decoded) along ≡ sum (map (λ read. read.1) reads)
+  pub writes : List (ℕ × ℕ)
+  pub are_writes : AllZip (λ (task : Task). AreMet target task.target) all writes
+  pub chunks_written : in_all (λ counts. counts.chunks_written) along ≡ sum (map (λ write. write.0) writes)

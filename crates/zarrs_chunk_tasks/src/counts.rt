@@ -1,0 +1,242 @@
+//! How much the tasks of a copy read and write, without a walk over them.
+ghost use Rattle.std.specs.Prelude.{◌≡◌, ◌≢◌, IfErr, IfOk, List, length, map};
+ghost use Rattle.std.specs.Int.NonZero.{non_zero_u64_get};
+ghost use Rattle.zarrs_chunk_base.specs.Dimension.{array_sizes};
+ghost use Rattle.zarrs_chunk_base.specs.Refusal.{HasMemory, OrMemory};
+ghost use Rattle.zarrs_chunk_plan.specs.Region.{LiesIn};
+ghost use Rattle.zarrs_chunk_tasks.specs.Counts.{AreTaskCounts};
+ghost use Rattle.zarrs_chunk_tasks.specs.Tasks.{AreTasksBySource, AreTasksByTarget, HasTasks, IsTasksFault};
+ghost use Rattle.zarrs_chunk_tasks.specs.declared.task.Task.{Task};
+ghost use Rattle.zarrs_chunk_tasks.specs.seen.Counts.{AreCopied, AreGroupCounts, AreGrouped};
+
+use crate::buffer::groups_over;
+use crate::groups_along::{GroupsAlong, sums_along};
+use crate::plan::moved_region;
+use crate::tasks_error::TasksError;
+use std::alloc::{AllocError, Global};
+use std::num::NonZeroU64;
+use zarrs_chunk_base::{ArraySubset, Refusal};
+use zarrs_chunk_parts::expect_answer;
+use zarrs_chunks::ChunkGridTraits;
+
+/// What the tasks of a copy read and write, along one dimension. A count of the tasks is the product of these numbers over all dimensions: it may be
+/// larger than any integer type holds.
+#[derive(Clone, Copy, Debug, PartialEq, Eq)]
+pub struct CountsAlong {
+    /// How many tasks there are.
+    pub tasks: u64,
+    /// How many elements the largest buffer has.
+    pub largest_task: u64,
+    /// How many chunks of the source are read. One that several tasks read counts in each.
+    pub chunks_read: u64,
+    /// How many elements these chunks have. Each is whole, also where it reaches over the region or the array.
+    pub elements_decoded: u128,
+    /// How many chunks of the target are written, counted in the same way.
+    pub chunks_written: u64,
+}
+
+/// Counts what [`tasks`](crate::tasks) gives. The counts of no dimensions are none: their product is 1.
+///
+/// It takes some look-ups for each group, along each dimension by itself.
+///
+/// # Errors
+/// As of [`tasks`](crate::tasks).
+pub fn task_counts<G: ChunkGridTraits, H: ChunkGridTraits>(
+    alloc: Global,
+    source: &G,
+    target: &H,
+    region: &ArraySubset,
+    at: &[u64],
+    task_chunks: &[NonZeroU64],
+) -> Result<Vec<CountsAlong>, Refusal<TasksError>>
+    ensures counts { IfOk result (λ counts. (tasks : List Task)
+        → AreTasksByTarget (H.dimensions target.now) (map non_zero_u64_get task_chunks.now)
+        region.now at.now tasks
+        → AreTaskCounts (G.dimensions source.now) (H.dimensions target.now) tasks counts.items) }
+    ensures has { IfOk result (λ _. HasTasks (array_sizes (G.dimensions source.now))
+        (array_sizes (H.dimensions target.now)) region.now at.now
+        (map non_zero_u64_get task_chunks.now)) }
+    ensures refused { IfErr result (OrMemory (IsTasksFault (array_sizes (G.dimensions source.now))
+        (array_sizes (H.dimensions target.now)) region.now at.now
+        (map non_zero_u64_get task_chunks.now))) }
+    ensures faults_first { (¬ HasTasks (array_sizes (G.dimensions source.now))
+        (array_sizes (H.dimensions target.now)) region.now at.now
+        (map non_zero_u64_get task_chunks.now)) → HasMemory result }
+{
+    region.is_a_box();
+    let moved = moved_region(alloc, source, target, region, at, task_chunks)?;
+    moved.is_a_box();
+    let copied = Copied {
+        source,
+        first: region.start(),
+        target,
+        at,
+    };
+    Ok(counts_of(alloc, &copied, target, task_chunks, &moved)?)
+}
+
+/// Counts what [`tasks_by_source`](crate::tasks_by_source) gives.
+///
+/// # Errors
+/// As of [`tasks`](crate::tasks).
+pub fn task_counts_by_source<G: ChunkGridTraits, H: ChunkGridTraits>(
+    alloc: Global,
+    source: &G,
+    target: &H,
+    region: &ArraySubset,
+    at: &[u64],
+    task_chunks: &[NonZeroU64],
+) -> Result<Vec<CountsAlong>, Refusal<TasksError>>
+    ensures counts { IfOk result (λ counts. (tasks : List Task)
+        → AreTasksBySource (G.dimensions source.now) (map non_zero_u64_get task_chunks.now)
+        region.now at.now tasks
+        → AreTaskCounts (G.dimensions source.now) (H.dimensions target.now) tasks counts.items) }
+    ensures has { IfOk result (λ _. HasTasks (array_sizes (G.dimensions source.now))
+        (array_sizes (H.dimensions target.now)) region.now at.now
+        (map non_zero_u64_get task_chunks.now)) }
+    ensures refused { IfErr result (OrMemory (IsTasksFault (array_sizes (G.dimensions source.now))
+        (array_sizes (H.dimensions target.now)) region.now at.now
+        (map non_zero_u64_get task_chunks.now))) }
+    ensures faults_first { (¬ HasTasks (array_sizes (G.dimensions source.now))
+        (array_sizes (H.dimensions target.now)) region.now at.now
+        (map non_zero_u64_get task_chunks.now)) → HasMemory result }
+{
+    region.is_a_box();
+    let moved = moved_region(alloc, source, target, region, at, task_chunks)?;
+    moved.is_a_box();
+    let copied = Copied {
+        source,
+        first: region.start(),
+        target,
+        at,
+    };
+    Ok(counts_of(alloc, &copied, source, task_chunks, region)?)
+}
+
+/// Where elements lie in two arrays.
+#[derive(Drop)]
+pub(crate) struct Copied<'a, G, H> {
+    /// The grid of the array that they come from, and where the first one lies in it.
+    pub(crate) source: &'a G,
+    pub(crate) first: &'a [u64],
+    /// The grid of the array that they go to, and where the first one goes.
+    pub(crate) target: &'a H,
+    pub(crate) at: &'a [u64],
+}
+
+/// The groups of chunks that hold some of the elements.
+#[derive(Drop)]
+pub(crate) struct Grouped<'a, K> {
+    /// The grid whose chunks are grouped, and how many of them a group joins along each dimension.
+    pub(crate) grid: &'a K,
+    pub(crate) each: &'a [NonZeroU64],
+    /// The elements, as a box of this grid's array, the cover of the box, and its last chunk.
+    pub(crate) elements: &'a ArraySubset,
+    pub(crate) cover: &'a ArraySubset,
+    pub(crate) last: &'a [u64],
+    /// The groups, as a box of their numbers.
+    pub(crate) groups: &'a ArraySubset,
+}
+
+/// Counts the groups of chunks of a grid that hold some of the elements, which are a box of its array.
+///
+/// # Errors
+/// Out of memory.
+fn counts_of<K: ChunkGridTraits, G: ChunkGridTraits, H: ChunkGridTraits>(
+    alloc: Global,
+    copied: &Copied<G, H>,
+    grid: &K,
+    each: &[NonZeroU64],
+    elements: &ArraySubset,
+) -> Result<Vec<CountsAlong>, AllocError>
+    requires lies { LiesIn elements.now (array_sizes (K.dimensions grid.now)) }
+    requires each { length each.now ≡ length (K.dimensions grid.now) }
+    requires copied { AreCopied (G.dimensions copied.now.source.now)
+        (H.dimensions copied.now.target.now) elements.now copied.now.first.now
+        copied.now.at.now }
+    ensures { IfOk result (λ counts. AreGroupCounts (G.dimensions copied.now.source.now)
+        (H.dimensions copied.now.target.now) (K.dimensions grid.now)
+        (map non_zero_u64_get each.now) elements.now copied.now.first.now copied.now.at.now
+        counts.items) }
+{
+    elements.is_a_box();
+    let cover = expect_answer(grid.chunks_in_array_subset(alloc, elements))?;
+    let groups = groups_over(alloc, grid, elements, each, &cover)?;
+    let Some(last) = cover.end_inc(alloc)? else {
+        return Ok(vec![in alloc; of_no_tasks(); each.len()]?);
+    };
+    let grouped = Grouped {
+        grid,
+        each,
+        elements,
+        cover: &cover,
+        last: &last,
+        groups: &groups,
+    };
+    counts_of_some(alloc, copied, &grouped)
+}
+
+/// Counts groups, of which there is one.
+///
+/// # Errors
+/// Out of memory.
+fn counts_of_some<K: ChunkGridTraits, G: ChunkGridTraits, H: ChunkGridTraits>(
+    alloc: Global,
+    copied: &Copied<G, H>,
+    grouped: &Grouped<K>,
+) -> Result<Vec<CountsAlong>, AllocError>
+    requires grouped { AreGrouped K.dimensions grouped.now }
+    requires copied { AreCopied (G.dimensions copied.now.source.now)
+        (H.dimensions copied.now.target.now) grouped.now.elements.now copied.now.first.now
+        copied.now.at.now }
+    ensures { IfOk result (λ counts. AreGroupCounts (G.dimensions copied.now.source.now)
+        (H.dimensions copied.now.target.now) (K.dimensions grouped.now.grid.now)
+        (map non_zero_u64_get grouped.now.each.now) grouped.now.elements.now
+        copied.now.first.now copied.now.at.now counts.items) }
+{
+    let elements = grouped.elements;
+    let groups = grouped.groups;
+    elements.is_a_box();
+    groups.is_a_box();
+    let mut counts = Vec::with_capacity(alloc, grouped.each.len())?;
+    for dimension in 0..grouped.each.len() {
+        let along = GroupsAlong {
+            grid: grouped.grid,
+            dimension,
+            each: grouped.each[dimension],
+            at: elements.start()[dimension],
+            size: elements.shape()[dimension],
+            first: grouped.cover.start()[dimension],
+            last: grouped.last[dimension],
+            group: groups.start()[dimension],
+            groups: groups.shape()[dimension],
+        };
+        let read = sums_along(alloc, &along, copied.source, copied.first[dimension])?;
+        let written = sums_along(alloc, &along, copied.target, copied.at[dimension])?;
+        counts.push(CountsAlong {
+            tasks: along.groups,
+            largest_task: read.largest,
+            chunks_read: read.chunks,
+            elements_decoded: read.elements,
+            chunks_written: written.chunks,
+        })?;
+    }
+    Ok(counts)
+}
+
+/// The counts of no tasks, along any dimension.
+fn of_no_tasks() -> CountsAlong
+    ensures tasks { result.tasks ≡ 0 }
+    ensures largest_task { result.largest_task ≡ 0 }
+    ensures chunks_read { result.chunks_read ≡ 0 }
+    ensures elements_decoded { result.elements_decoded ≡ 0 }
+    ensures chunks_written { result.chunks_written ≡ 0 }
+{
+    CountsAlong {
+        tasks: 0,
+        largest_task: 0,
+        chunks_read: 0,
+        elements_decoded: 0,
+        chunks_written: 0,
+    }
+}
