@@ -11,7 +11,10 @@ use zarrs_chunk_tasks::laws::{
     each_task_lies_in_both_arrays, no_chunk_is_in_two_tasks, shares_are_together_the_tasks,
     the_tasks_are_the_copy, the_walk_gives_the_tasks, there_are_tasks,
 };
-use zarrs_chunk_tasks::{Task, Tasks, TasksError, tasks, tasks_by_source};
+use zarrs_chunk_tasks::{
+    CountsAlong, Task, Tasks, TasksError, task_counts, task_counts_by_source, tasks,
+    tasks_by_source,
+};
 use zarrs_chunks::RegularChunkGrid;
 
 /// The index in the target that the first element goes to.
@@ -110,6 +113,80 @@ fn an_empty_region_has_no_tasks(rt: HostRuntime) -> Result<(), Fail> {
     let mut walk = tasks(alloc, &source.grid, &target.grid, &region, &AT, &each)?;
     assert_eq!(rt; walk.in_all(), Some(0));
     check_text(&rt, lines_of(alloc, &mut walk)?.as_str(), "");
+    Ok(())
+}
+
+/// The counts along each dimension, a line each: tasks, elements of the largest, chunks read, elements decoded, chunks written.
+fn lines_of_counts(alloc: Global, counts: &[CountsAlong]) -> Result<String, Fail> {
+    let mut lines = String::new(alloc);
+    for along in counts {
+        let line = format!(in alloc;
+            "{} {} {} {} {}\n",
+            along.tasks,
+            along.largest_task,
+            along.chunks_read,
+            along.elements_decoded,
+            along.chunks_written
+        )?;
+        lines.push_str(line.as_str())?;
+    }
+    Ok(lines)
+}
+
+/// Along four dimensions there is one element. Along the last one the first task reads chunks 0 and 1 of the source and writes chunks 0 and 1 of the
+/// target, the second reads 1 and 2 and writes 2.
+const COUNTS_BY_TARGET: &str = "1 1 1 1 1\n1 1 1 1 1\n1 1 1 1 1\n1 1 1 1 1\n2 5 4 16 3\n";
+
+/// The first task reads chunks 0 and 1 and writes all three, the second reads chunk 2 and writes chunk 2.
+const COUNTS_BY_SOURCE: &str = "1 1 1 1 1\n1 1 1 1 1\n1 1 1 1 1\n1 1 1 1 1\n2 6 3 12 4\n";
+
+/// Ten elements from chunks of four to chunks of five: each task reads two chunks. The last one reaches over the array by two elements, and is decoded whole.
+const COUNTS_AT_THE_BORDER: &str = "1 1 1 1 1\n1 1 1 1 1\n1 1 1 1 1\n1 1 1 1 1\n2 5 4 16 2\n";
+
+/// Nothing along any dimension.
+const NO_COUNTS: &str = "0 0 0 0 0\n0 0 0 0 0\n0 0 0 0 0\n0 0 0 0 0\n0 0 0 0 0\n";
+
+#[test]
+fn counts_are_those_of_the_tasks(rt: HostRuntime) -> Result<(), Fail> {
+    let alloc = rt.alloc();
+    let (source, target) = two_rows(alloc)?;
+    let (region, none, each) = (
+        some_of(alloc, 2, 7)?,
+        some_of(alloc, 12, 0)?,
+        edges_of(alloc, 2)?,
+    );
+    let (from, into) = (&source.grid, &target.grid);
+    let counts = task_counts(alloc, from, into, &region, &AT, &each)?;
+    check_text(
+        &rt,
+        lines_of_counts(alloc, &counts)?.as_str(),
+        COUNTS_BY_TARGET,
+    );
+    let counts = task_counts_by_source(alloc, from, into, &region, &AT, &each)?;
+    check_text(
+        &rt,
+        lines_of_counts(alloc, &counts)?.as_str(),
+        COUNTS_BY_SOURCE,
+    );
+    let counts = task_counts(alloc, from, into, &none, &AT, &each)?;
+    check_text(&rt, lines_of_counts(alloc, &counts)?.as_str(), NO_COUNTS);
+    let counts = task_counts_by_source(alloc, from, into, &none, &AT, &each)?;
+    check_text(&rt, lines_of_counts(alloc, &counts)?.as_str(), NO_COUNTS);
+    Ok(())
+}
+
+#[test]
+fn a_border_chunk_is_decoded_whole(rt: HostRuntime) -> Result<(), Fail> {
+    let alloc = rt.alloc();
+    let (source, target) = (row(alloc, 10, 4)?, row(alloc, 10, 5)?);
+    let (region, each) = (some_of(alloc, 0, 10)?, edges_of(alloc, 1)?);
+    let (from, into) = (&source.grid, &target.grid);
+    let counts = task_counts(alloc, from, into, &region, &[0; 5], &each)?;
+    check_text(
+        &rt,
+        lines_of_counts(alloc, &counts)?.as_str(),
+        COUNTS_AT_THE_BORDER,
+    );
     Ok(())
 }
 

@@ -1,12 +1,9 @@
 -- What is counted along each dimension: for a box of elements, for a group, and for all groups of a box.
-use Rattle.std.proofs.Common.{◌≡◌, ◌∙◌, ℕ, zero, suc, ◌+◌, ◌-◌, ◌<◌, IsTrue, List, [], ◌∷◌, Contains, length, map, min, refl, ap, ap₂, subst, sym, arith, ◌*◌}
-use Rattle.std.proofs.Common.{slice_index_or}
+use Rattle.std.proofs.Common.{◌≡◌, ◌∙◌, ℕ, zero, suc, ◌+◌, ◌-◌, IsTrue, List, [], ◌∷◌, Contains, length, map, min, refl, ap, ap₂, subst, sym, arith, ◌*◌}
 use Rattle.std.specs.List.{AllByRecursion, AllZip, range_with_len, sum}
-use Rattle.zarrs_chunk_base.specs.ArraySubset.{Box, IsBox, IsEmptyBox, IsInside, lasts}
+use Rattle.zarrs_chunk_base.specs.ArraySubset.{Box, IsBox, IsEmptyBox, lasts}
 use Rattle.zarrs_chunk_base.specs.Dimension.{Dimension, Holds, InBox, IsChain, IsShape, array_sizes}
 use Rattle.zarrs_chunk_base.proofs.InEach.{by_dimension, length_numbers, length_values}
-use Rattle.zarrs_chunk_axes.specs.Along.{Along}
-use Rattle.zarrs_chunk_axes.specs.InBounds.{AreBelow}
 unfoldable use Rattle.zarrs_chunk_axes.specs.RowMajor.{row_major}
 use Rattle.zarrs_chunks.specs.Walks.{chunks_in, counted_from}
 use Rattle.zarrs_chunks.proofs.ChunksInBoxes.{are_those_inside, chunks_once}
@@ -19,11 +16,11 @@ use Rattle.zarrs_chunk_plan.proofs.ByNumber.{as_many, length-shape}
 use Rattle.zarrs_chunk_plan.proofs.MetChunks.{met_is}
 use Rattle.zarrs_chunk_plan.proofs.MovedBoxes.{within_below}
 use Rattle.zarrs_chunk_plan.proofs.Plans.{all_of_each, covers_some}
-use Rattle.zarrs_chunk_plan.proofs.Products.{met_by_all, met_of, sum_of_products}
+use Rattle.zarrs_chunk_plan.proofs.Products.{met_by_all, sum_of_products}
 use Rattle.zarrs_chunk_plan.proofs.SomePlan.{array_homes, has_cover}
 use Rattle.zarrs_chunk_plan.proofs.TakenBoxes.{AllTakeSome}
 use Rattle.zarrs_chunk_tasks.specs.Counts.{AreMet}
-use Rattle.zarrs_chunk_tasks.specs.seen.Counts.{of_group, of_groups, of_groups_each, whole}
+use Rattle.zarrs_chunk_tasks.specs.seen.Counts.{of_groups_each, whole}
 use Rattle.zarrs_chunk_tasks.proofs.SumsAlong.{sum_more, whole_is}
 
 abbrev pub Count : Type 0
@@ -109,13 +106,15 @@ box_is_met ds b chains is_box some lies =
     let firsts = length_numbers Holds ds cover.start b.start is.first in
     let long = spans ds cover.start cover.shape b.start b.shape chains is.some (sym is.is_box.lengths) (sym is_box.lengths) firsts starts is.first is.last in
     record {
-      chunks = chunks_in cover;
-      once = chunks_once cover is.is_box;
-      are_those = λ chunk. (
-        λ among. (covers.named chunk).0 ((are_those_inside cover is.is_box chunk).0 among),
-        λ meets. (are_those_inside cover is.is_box chunk).1 ((covers.named chunk).1 meets),
-      );
-      many = in_box_many cover ∙ ap product long.chunks;
+      chunks = record {
+        members = chunks_in cover;
+        once = chunks_once cover is.is_box;
+        are_those = λ chunk. (
+          λ among. (covers.named chunk).0 ((are_those_inside cover is.is_box chunk).0 among),
+          λ meets. (are_those_inside cover is.is_box chunk).1 ((covers.named chunk).1 meets),
+        );
+        as_many = in_box_many cover ∙ ap product long.chunks;
+      };
       shapes = map (met_by (edges ds)) (chunks_in cover);
       are_shapes =
           all_zip_map (IsShape ds) (met_by (edges ds)) (chunks_in cover)

@@ -1,11 +1,11 @@
 -- The counts of the groups that hold some of a box of elements, a dimension after another.
-use Rattle.std.proofs.Common.{◌≡◌, ◌≢◌, ◌∙◌, ℕ, zero, suc, ◌+◌, ◌<◌, ◌≤◌, List, [], ◌∷◌, ◌++◌, Contains, fold, length, map, max, refl, ap, ap₂, sym, take, replicate, arith}
+use Rattle.std.proofs.Common.{◌≡◌, ◌≢◌, ◌∙◌, ℕ, zero, suc, ◌+◌, ◌<◌, ◌≤◌, List, [], ◌∷◌, ◌++◌, Contains, length, map, refl, ap, ap₂, sym, take, replicate, arith}
 use Rattle.std.proofs.Common.{slice_index_or}
-use Rattle.std.proofs.lemmas.List.{length-map, map-append, take_all, take_more}
+use Rattle.std.proofs.lemmas.List.{length-map, length-replicate, map-append, take_all, take_more}
 use Rattle.std.specs.Int.NonZero.{non_zero_u64_get}
 use Rattle.std.specs.List.{AllByRecursion, sum}
 use Rattle.std.specs.declared.num.NonZeroU64.{NonZeroU64}
-use Rattle.zarrs_chunk_base.specs.ArraySubset.{AreWithin, Box, IsBox, IsEmptyBox, IsInside, ends, lasts}
+use Rattle.zarrs_chunk_base.specs.ArraySubset.{AreWithin, Box, IsBox, IsEmptyBox, ends, lasts}
 use Rattle.zarrs_chunk_base.specs.Dimension.{Dimension, Holds, IsChain, array_sizes}
 use Rattle.zarrs_chunk_base.specs.Greatest.{AllFit, greatest}
 use Rattle.zarrs_chunk_base.proofs.Boxes.{within_lengths}
@@ -22,11 +22,11 @@ use Rattle.zarrs_chunk_plan.proofs.MovedBoxes.{within_long}
 use Rattle.zarrs_chunk_plan.proofs.Plans.{not_empty_if_inside}
 use Rattle.zarrs_chunk_plan.proofs.Products.{greatest_of, greatest_of_products, met_by_all, products, sum_of_products}
 use Rattle.zarrs_chunk_plan.proofs.TakenBoxes.{AllTakeSome, meets_take}
-use Rattle.zarrs_chunk_tasks.specs.Counts.{in_all}
+use Rattle.zarrs_chunk_tasks.specs.Counts.{AreNone}
 use Rattle.zarrs_chunk_tasks.specs.declared.counts.CountsAlong.{CountsAlong}
 use Rattle.zarrs_chunk_tasks.specs.declared.counts.Grouped.{Grouped}
 use Rattle.zarrs_chunk_tasks.specs.declared.groups_along.Sums.{Sums}
-use Rattle.zarrs_chunk_tasks.specs.seen.Counts.{AreCopied, AreGroupCounts, AreGrouped, AreSums, AreTaking, indices, of_each_group, of_groups, of_groups_each, whole}
+use Rattle.zarrs_chunk_tasks.specs.seen.Counts.{AreCopied, AreGroupCounts, AreGrouped, AreLong, AreSums, AreTaking, indices, of_each_group, of_groups, of_groups_each, whole}
 use Rattle.zarrs_chunk_tasks.specs.seen.Grouped.{all_grouped, grouped}
 use Rattle.zarrs_chunk_tasks.specs.seen.Tasks.{AreGroups}
 use Rattle.zarrs_chunk_tasks.specs.seen.GroupNumbers.{groups_of}
@@ -99,19 +99,7 @@ module _ (source target ds : List Dimension) (each : List NonZeroU64) (elements 
     pub elements_decoded : map (λ (counts : CountsAlong). counts.elements_decoded) along ≡ map sum (take k (table whole source first))
     pub chunks_written : map (λ (counts : CountsAlong). counts.chunks_written) along ≡ map sum (take k (table met target at))
 
-  -- there is a number for each dimension
-  pub record AreLong : Type 0 where
-    pub source_long : length source ≡ length ds
-    pub target_long : length target ≡ length ds
-    pub each_long : length each ≡ length ds
-    pub first_long : length first ≡ length ds
-    pub at_long : length at ≡ length ds
-    pub start_long : length elements.start ≡ length ds
-    pub shape_long : length elements.shape ≡ length ds
-    pub group_long : length group_box.start ≡ length ds
-    pub groups_long : length group_box.shape ≡ length ds
-
-  module _ (long : AreLong) (groups_many : length (groups ds each) ≡ length ds) where
+  module _ (long : AreLong source target ds each elements group_box first at) (groups_many : length (groups ds each) ≡ length ds) where
     counters_long : (count : Count) (others : List Dimension) (begin : List ℕ) → length others ≡ length ds → length begin ≡ length ds
         → length (of_groups_each count others (groups ds each) begin elements.start elements.shape) ≡ length ds
     counters_long count others begin e f =
@@ -171,8 +159,11 @@ module _ (source target ds : List Dimension) (each : List NonZeroU64) (elements 
 
     -- after the last one
     pub rows_are : (is_box : IsBox group_box) (named : AreGroups ds (numbers each) elements group_box) (k : ℕ) (along : List CountsAlong) → length ds ≤ k
-        → RowsSoFar k along → AreGroupCounts source target ds (numbers each) elements first at along
-    rows_are is_box named k along ended rows = record {
+        → (¬ IsEmptyBox elements) → RowsSoFar k along → AreGroupCounts source target ds (numbers each) elements first at along
+    rows_are is_box named k along ended some rows = record {
+      long = sym (length-map along (λ (counts : CountsAlong). counts.tasks)) ∙ ap length (rows.tasks ∙ take_all k group_box.shape (omega (arith, ended, long.groups_long)))
+          ∙ long.groups_long;
+      of_none = λ empty. absurd (some empty);
       groups = group_box;
       is_box = is_box;
       are_groups = named;
@@ -211,25 +202,33 @@ nothing : {X : Type 0} (xs : List X) → ((x : X) → ¬ Contains xs x) → xs �
 nothing [] none = refl
 nothing (x ∷ xs) none = absurd (none x (zero, omega arith, refl))
 
-pub some_more : (m n : ℕ) → m ≡ n → n ≢ 0 → 0 < m
+some_more : (m n : ℕ) → m ≡ n → n ≢ 0 → 0 < m
 some_more m zero same some = absurd (some refl)
 some_more m (suc n) same some = omega arith
 
 -- of an empty box there are none
 pub none_are : (source target ds : List Dimension) (each : List ℕ) (elements group_box : Box) (first at : List ℕ) (of_none : CountsAlong) (n : ℕ)
-    → IsEmptyBox elements → 0 < n → IsBox group_box → AreGroups ds each elements group_box → of_none.tasks ≡ 0 → of_none.largest_task ≡ 0
-    → of_none.chunks_read ≡ 0 → of_none.elements_decoded ≡ 0 → of_none.chunks_written ≡ 0
+    → IsEmptyBox elements → n ≡ length ds → length ds ≢ 0 → IsBox group_box → AreGroups ds each elements group_box → AreNone of_none
     → AreGroupCounts source target ds each elements first at (replicate n of_none)
-none_are source target ds each elements group_box first at of_none n empty some is_box named tasks largest read decoded written = record {
+none_are source target ds each elements group_box first at of_none n empty same any is_box named zeros = record {
+  long = length-replicate n of_none ∙ same;
+  of_none = λ _. all_same n;
   groups = group_box;
   is_box = is_box;
   are_groups = named;
-  tasks = product_of_zeros (λ (c : CountsAlong). c.tasks) of_none n tasks some ∙ ap length (sym none);
-  largest_task = product_of_zeros (λ (c : CountsAlong). c.largest_task) of_none n largest some ∙ ap greatest_of (sym (of_nothing indices source first));
-  chunks_read = product_of_zeros (λ (c : CountsAlong). c.chunks_read) of_none n read some ∙ ap sum (sym (of_nothing met source first));
-  elements_decoded = product_of_zeros (λ (c : CountsAlong). c.elements_decoded) of_none n decoded some ∙ ap sum (sym (of_nothing whole source first));
-  chunks_written = product_of_zeros (λ (c : CountsAlong). c.chunks_written) of_none n written some ∙ ap sum (sym (of_nothing met target at));
+  tasks = product_of_zeros (λ (c : CountsAlong). c.tasks) of_none n zeros.tasks some ∙ ap length (sym none);
+  largest_task = product_of_zeros (λ (c : CountsAlong). c.largest_task) of_none n zeros.largest_task some ∙ ap greatest_of (sym (of_nothing indices source first));
+  chunks_read = product_of_zeros (λ (c : CountsAlong). c.chunks_read) of_none n zeros.chunks_read some ∙ ap sum (sym (of_nothing met source first));
+  elements_decoded = product_of_zeros (λ (c : CountsAlong). c.elements_decoded) of_none n zeros.elements_decoded some ∙ ap sum (sym (of_nothing whole source first));
+  chunks_written = product_of_zeros (λ (c : CountsAlong). c.chunks_written) of_none n zeros.chunks_written some ∙ ap sum (sym (of_nothing met target at));
 } where
+  some : 0 < n
+  some = some_more n (length ds) same any
+
+  all_same : (m : ℕ) → AllByRecursion AreNone (replicate m of_none)
+  all_same zero = tt
+  all_same (suc m) = (zeros, all_same m)
+
   none : chunks_in group_box ≡ []
   none =
       nothing (chunks_in group_box)
@@ -249,7 +248,7 @@ pub record SomeGroups (source target ds : List Dimension) (each : List NonZeroU6
   pub long : AreLong source target ds each elements group_box first at
   pub many : ¬ Contains group_box.shape 0
 
-pub some_groups : (source target ds : List Dimension) (each : List NonZeroU64) (elements cover group_box : Box) (first at : List ℕ) → AllByRecursion IsChain ds
+some_groups : (source target ds : List Dimension) (each : List NonZeroU64) (elements cover group_box : Box) (first at : List ℕ) → AllByRecursion IsChain ds
     → length each ≡ length ds → IsBox elements → (¬ IsEmptyBox elements) → LiesIn elements (array_sizes ds) → IsCover ds elements cover → IsBox group_box
     → AreGroups ds (numbers each) elements group_box → AreCopied source target elements first at
     → SomeGroups source target ds each elements group_box first at
@@ -283,7 +282,7 @@ some_groups source target ds each elements cover group_box first at chains many 
       length_groups _ _ same = absurd (omega arith)
 
 -- each of the groups takes some of the elements, along each dimension
-pub groups_take : (ds : List Dimension) (each : List NonZeroU64) (elements cover group_box : Box) → AllByRecursion IsChain ds → (many : length each ≡ length ds)
+groups_take : (ds : List Dimension) (each : List NonZeroU64) (elements cover group_box : Box) → AllByRecursion IsChain ds → (many : length each ≡ length ds)
     → IsBox elements → (¬ IsEmptyBox elements) → IsCover ds elements cover → IsBox group_box → AreGroups ds (numbers each) elements group_box
     → length group_box.start ≡ length ds → (¬ Contains group_box.shape 0) → (any : NonZeroU64) (k : ℕ) → k < length ds
     → Along (AreTaking (non_zero_u64_get (slice_index_or each k any)) (slice_index_or elements.start k 0) (slice_index_or elements.shape k 0)
@@ -296,42 +295,40 @@ groups_take ds each elements cover group_box chains many is_box some is is_group
     (λ group inside. meets_take (groups ds each) elements group ((meets_as_chunk ds each chains many elements group).0 ((named group).0 inside))) within
 
 -- what holds of a list of ranges holds of the one at a number
-pub end_fits : (start shape : List ℕ) (k : ℕ) → AllFit (ends start shape) → k < length start → k < length shape
+end_fits : (start shape : List ℕ) (k : ℕ) → AllFit (ends start shape) → k < length start → k < length shape
     → slice_index_or start k 0 + slice_index_or shape k 0 ≤ greatest
 end_fits (s ∷ start) (n ∷ shape) zero fit one other = fit.0
 end_fits (s ∷ start) (n ∷ shape) (suc k) fit one other = end_fits start shape k fit.1 (omega arith) (omega arith)
 end_fits _ _ k fit one other = absurd (omega arith)
 
--- of what is grouped
-module _ {K : Type 0} (dimensions : K → List Dimension) (source target : List Dimension) (first at : List ℕ) (given : Grouped K) (are : AreGrouped dimensions given)
+-- what is found of elements that aren't none is what is counted
+module _ {K : Type 0} (dimensions : K → List Dimension) (source target : List Dimension) (first at : List ℕ) (given : Grouped K)
     (chains : AllByRecursion IsChain (dimensions given.grid.now)) (is_box : IsBox given.elements.now) (is_groups : IsBox given.groups.now)
+    (lies : LiesIn given.elements.now (array_sizes (dimensions given.grid.now))) (many : length given.each.now ≡ length (dimensions given.grid.now))
+    (some : ¬ IsEmptyBox given.elements.now) (is : IsCover (dimensions given.grid.now) given.elements.now given.cover.now)
+    (last : given.last.now ≡ lasts given.cover.now.start given.cover.now.shape)
+    (named : AreGroups (dimensions given.grid.now) (numbers given.each.now) given.elements.now given.groups.now)
     (copied : AreCopied source target given.elements.now first at) where
-  abbrev ds : List Dimension
-  ds = dimensions given.grid.now
-
-  pub grouping : SomeGroups source target ds given.each.now given.elements.now given.groups.now first at
-  grouping =
-      some_groups source target ds given.each.now given.elements.now given.cover.now given.groups.now first at chains are.each_many is_box are.some are.lies
-      are.is_cover is_groups are.named copied
-
-  pub grouped_long : length (groups ds given.each.now) ≡ length ds
-  grouped_long = as_many_grouped ds (numbers given.each.now) (length-map given.each.now non_zero_u64_get ∙ are.each_many)
-
-  many_each : AsMany ds given.each.now given.elements.now.start given.elements.now.shape given.cover.now.start
-      (lasts given.cover.now.start given.cover.now.shape)
-  many_each = as_many_each ds given.each.now chains are.each_many given.elements.now given.cover.now is_box are.is_cover
-
-  pub cover_long : length given.cover.now.start ≡ length ds
-  cover_long = many_each.first_many
-
-  pub last_long : length given.last.now ≡ length ds
-  last_long = ap length are.last ∙ many_each.last_many
-
-  pub taking_at : (any : NonZeroU64) (k : ℕ) → k < length ds
-      → Along (AreTaking (non_zero_u64_get (slice_index_or given.each.now k any)) (slice_index_or given.elements.now.start k 0)
-      (slice_index_or given.elements.now.shape k 0) (slice_index_or given.cover.now.start k 0) (slice_index_or given.last.now k 0)
-      (slice_index_or given.groups.now.start k 0) (slice_index_or given.groups.now.shape k 0)) ds k
-  taking_at any k within =
-      rw are.last
-      (groups_take ds given.each.now given.elements.now given.cover.now given.groups.now chains are.each_many is_box are.some are.is_cover is_groups are.named
-      grouping.long.group_long grouping.many any k within)
+  pub are_grouped : AreGrouped dimensions source target first at given
+  are_grouped =
+      let ds = dimensions given.grid.now in
+      let there = some_groups source target ds given.each.now given.elements.now given.cover.now given.groups.now first at chains many is_box some lies is
+      is_groups named copied
+      in
+      let each = as_many_each ds given.each.now chains many given.elements.now given.cover.now is_box is in
+      let long = there.long in
+      record {
+        some = some;
+        named = named;
+        long = long;
+        cover_long = each.first_many;
+        last_long = ap length last ∙ each.last_many;
+        first_fits = λ k within. end_fits first given.elements.now.shape k copied.from.fits (omega (arith, within, long.first_long))
+            (omega (arith, within, long.shape_long));
+        at_fits = λ k within. end_fits at given.elements.now.shape k copied.into.fits (omega (arith, within, long.at_long))
+            (omega (arith, within, long.shape_long));
+        take = λ any k within.
+            rw last
+            (groups_take ds given.each.now given.elements.now given.cover.now given.groups.now chains many is_box some is is_groups named long.group_long
+            there.many any k within);
+      }

@@ -1,5 +1,5 @@
 -- What is counted of a range of indices, and of the groups that hold some of it, along one dimension.
-use Rattle.std.proofs.Common.{◌≡◌, ◌∙◌, ℕ, zero, suc, ◌+◌, ◌-◌, ◌*◌, ◌<◌, ◌≤◌, IsTrue, List, [], ◌∷◌, ◌++◌, fold, length, map, max, min, refl, ap, ap₂}
+use Rattle.std.proofs.Common.{◌≡◌, ◌∙◌, ℕ, zero, suc, ◌+◌, ◌-◌, ◌*◌, ◌<◌, ◌≤◌, IsTrue, List, [], ◌∷◌, fold, length, map, max, min, refl, ap, ap₂}
 use Rattle.std.proofs.Common.{subst, sym, ⊎_elim, arith}
 use Rattle.std.proofs.lemmas.Bool.{cases_lt, le-ltb, lt-ltb}
 use Rattle.std.proofs.lemmas.List.FromFn.{map-range_with_len_more, sum_by-map-range_with_len_more}
@@ -10,10 +10,10 @@ use Rattle.zarrs_chunk_base.specs.Greatest.{greatest}
 use Rattle.zarrs_chunk_axes.specs.Along.{Along, IsRange}
 use Rattle.zarrs_chunks.proofs.Chains.{apart, at_most_start, in_chain, no_later}
 use Rattle.zarrs_chunk_plan.proofs.MetChunks.{met_at_most, met_is}
-use Rattle.zarrs_chunk_plan.specs.seen.Sources.{TakesSome, home, home_from, met, taken, taken_from}
+use Rattle.zarrs_chunk_plan.specs.seen.Sources.{TakesSome, home, home_from, met, taken_from}
 use Rattle.zarrs_chunk_tasks.specs.declared.groups_along.Met.{Met}
 use Rattle.zarrs_chunk_tasks.specs.declared.groups_along.Sums.{Sums}
-use Rattle.zarrs_chunk_tasks.specs.seen.Counts.{AreMetAlong, AreOver, AreSums, AreTaking, IsTaken, indices, of_group, whole}
+use Rattle.zarrs_chunk_tasks.specs.seen.Counts.{AreMetAlong, AreSums, AreTaking, IsTaken, indices, of_group, whole}
 use Rattle.zarrs_chunk_tasks.specs.seen.Grouped.{grouped}
 use Rattle.zarrs_chunk_tasks.proofs.GroupBoxes.{Reaches, first_in, last_in}
 use Rattle.zarrs_chunk_tasks.proofs.Grouped.{grouped_chain}

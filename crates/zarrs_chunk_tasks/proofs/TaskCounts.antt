@@ -1,10 +1,10 @@
 -- The counts of groups are those of the tasks of a copy.
-use Rattle.std.proofs.Common.{◌≡◌, ◌∙◌, ℕ, suc, ◌+◌, ◌-◌, ◌≤◌, List, [], ◌∷◌, Contains, fold, length, map, max, refl, ap, ap₂, subst, sym, arith}
+use Rattle.std.proofs.Common.{◌≡◌, ◌∙◌, ℕ, suc, ◌+◌, ◌≤◌, List, [], ◌∷◌, fold, length, map, max, refl, ap, ap₂, subst, sym, arith}
 use Rattle.std.proofs.lemmas.List.{length-map}
 use Rattle.std.specs.Int.NonZero.{non_zero_u64_get}
 use Rattle.std.specs.List.{AllByRecursion, AllZip, sum}
 use Rattle.std.specs.declared.num.NonZeroU64.{NonZeroU64}
-use Rattle.zarrs_chunk_base.specs.ArraySubset.{AreWithin, Box, IsBox, IsInside}
+use Rattle.zarrs_chunk_base.specs.ArraySubset.{Box, IsBox, IsInside}
 use Rattle.zarrs_chunk_base.specs.Dimension.{Dimension, IsChain, array_sizes}
 use Rattle.zarrs_chunk_base.specs.Greatest.{greatest}
 use Rattle.zarrs_chunk_base.proofs.Boxes.{within_lengths}
@@ -15,7 +15,7 @@ use Rattle.zarrs_chunk_plan.specs.Counts.{product}
 use Rattle.zarrs_chunk_plan.specs.Region.{EndWithin, moved, shifted}
 use Rattle.zarrs_chunk_plan.specs.seen.Sources.{met, met_by, taken_box, taken_sizes, taken_starts}
 use Rattle.zarrs_chunk_plan.proofs.MovedBoxes.{within_long, within_starts}
-use Rattle.zarrs_chunk_plan.proofs.Plans.{all_of_each, not_empty_if_inside, within_sizes}
+use Rattle.zarrs_chunk_plan.proofs.Plans.{all_of_each, not_empty_if_inside}
 use Rattle.zarrs_chunk_plan.proofs.SameBoxes.{chunks_of_same, same_box_of}
 use Rattle.zarrs_chunk_plan.proofs.TakenBoxes.{AllTakeSome, meets_take}
 use Rattle.zarrs_chunk_tasks.specs.Counts.{AreMet, AreTaskCounts}
@@ -23,7 +23,7 @@ use Rattle.zarrs_chunk_tasks.specs.Groups.{HoldsSomeOf, IsBuffer}
 use Rattle.zarrs_chunk_tasks.specs.Tasks.{AreTasks, AreTasksBySource, AreTasksByTarget, HasTasks, IsTask}
 use Rattle.zarrs_chunk_tasks.specs.declared.counts.CountsAlong.{CountsAlong}
 use Rattle.zarrs_chunk_tasks.specs.declared.task.Task.{Task}
-use Rattle.zarrs_chunk_tasks.specs.seen.Counts.{AreGroupCounts, indices, of_each_group, of_groups_each, whole}
+use Rattle.zarrs_chunk_tasks.specs.seen.Counts.{AreGroupCounts, indices, of_groups_each, whole}
 use Rattle.zarrs_chunk_tasks.proofs.CountsOfEach.{Count, box_is_met, map_of_map, of_ranges, shares_of}
 use Rattle.zarrs_chunk_tasks.proofs.GroupBoxes.{groups, meets_as_chunk, numbers, taken_is_buffer}
 use Rattle.zarrs_chunk_tasks.proofs.Grouped.{as_many_grouped}

@@ -1,22 +1,19 @@
 -- How much the tasks of a copy read and write. Each count is a product of numbers, one a dimension.
 -- Source: this library's own.
-use Rattle.std.specs.Prelude.{◌≡◌, ◌≢◌, ◌↔◌, ℕ, List, fold, length, map, max}
-use Rattle.std.specs.List.{AllPairs, AllZip, Contains, sum}
+use Rattle.std.specs.Prelude.{◌≡◌, ℕ, List, fold, length, map, max}
+use Rattle.std.specs.List.{AllZip, sum}
 use Rattle.zarrs_chunk_base.specs.ArraySubset.{Box}
 use Rattle.zarrs_chunk_base.specs.Dimension.{Dimension, IsShape}
 use Rattle.zarrs_chunk_parts.specs.Plan.{Meets}
-use Rattle.zarrs_chunk_plan.specs.Counts.{product}
+use Rattle.zarrs_chunk_plan.specs.Counts.{AreMany, product}
 use Rattle.zarrs_chunk_tasks.specs.declared.counts.CountsAlong.{CountsAlong}
 use Rattle.zarrs_chunk_tasks.specs.declared.task.Task.{Task}
 
--- So many chunks hold some of a box of elements, and so many elements these chunks have, whole.
+-- So many chunks hold some of a box of elements, and so many elements these chunks have, each whole.
 pub record AreMet (ds : List Dimension) (b : Box) (met : ℕ × ℕ) : Type 0 where
-  pub chunks : List (List ℕ)
-  pub once : AllPairs (λ one other. one ≢ other) chunks
-  pub are_those : (chunk : List ℕ) → Contains chunks chunk ↔ Meets ds b chunk
-  pub many : length chunks ≡ met.0
+  pub chunks : AreMany (Meets ds b) met.0
   pub shapes : List (List ℕ)
-  pub are_shapes : AllZip (IsShape ds) chunks shapes
+  pub are_shapes : AllZip (IsShape ds) chunks.members shapes
   pub elements : sum (map product shapes) ≡ met.1
 
 -- a count of all dimensions together
@@ -34,3 +31,11 @@ pub record AreTaskCounts (source target : List Dimension) (all : List Task) (alo
   pub writes : List (ℕ × ℕ)
   pub are_writes : AllZip (λ (task : Task). AreMet target task.target) all writes
   pub chunks_written : in_all (λ counts. counts.chunks_written) along ≡ sum (map (λ write. write.0) writes)
+
+-- the counts of no tasks: each is 0
+pub record AreNone (counts : CountsAlong) : Type 0 where
+  pub tasks : counts.tasks ≡ 0
+  pub largest_task : counts.largest_task ≡ 0
+  pub chunks_read : counts.chunks_read ≡ 0
+  pub elements_decoded : counts.elements_decoded ≡ 0
+  pub chunks_written : counts.chunks_written ≡ 0

@@ -1,10 +1,12 @@
 //! How much the tasks of a copy read and write, without a walk over them.
 ghost use Rattle.std.specs.Prelude.{◌≡◌, ◌≢◌, IfErr, IfOk, List, length, map};
 ghost use Rattle.std.specs.Int.NonZero.{non_zero_u64_get};
+ghost use Rattle.std.specs.List.{AllByRecursion};
+ghost use Rattle.zarrs_chunk_base.specs.ArraySubset.{IsEmptyBox};
 ghost use Rattle.zarrs_chunk_base.specs.Dimension.{array_sizes};
 ghost use Rattle.zarrs_chunk_base.specs.Refusal.{HasMemory, OrMemory};
 ghost use Rattle.zarrs_chunk_plan.specs.Region.{LiesIn};
-ghost use Rattle.zarrs_chunk_tasks.specs.Counts.{AreTaskCounts};
+ghost use Rattle.zarrs_chunk_tasks.specs.Counts.{AreNone, AreTaskCounts};
 ghost use Rattle.zarrs_chunk_tasks.specs.Tasks.{AreTasksBySource, AreTasksByTarget, HasTasks, IsTasksFault};
 ghost use Rattle.zarrs_chunk_tasks.specs.declared.task.Task.{Task};
 ghost use Rattle.zarrs_chunk_tasks.specs.seen.Counts.{AreCopied, AreGroupCounts, AreGrouped};
@@ -20,24 +22,26 @@ use zarrs_chunk_parts::expect_answer;
 use zarrs_chunks::ChunkGridTraits;
 
 /// What the tasks of a copy read and write, along one dimension. A count of the tasks is the product of these numbers over all dimensions: it may be
-/// larger than any integer type holds.
+/// larger than any integer type holds. Without tasks each number is 0.
 #[derive(Clone, Copy, Debug, PartialEq, Eq)]
 pub struct CountsAlong {
-    /// How many tasks there are.
+    /// Groups that hold some of the region. The product is the number of tasks.
     pub tasks: u64,
-    /// How many elements the largest buffer has.
+    /// Indices of the longest buffer. The product is the number of elements of the largest buffer, without the chunks that fill it.
     pub largest_task: u64,
-    /// How many chunks of the source are read. One that several tasks read counts in each.
+    /// Chunks of the source that groups read. The product counts a chunk once for each task that reads it.
     pub chunks_read: u64,
-    /// How many elements these chunks have. Each is whole, also where it reaches over the region or the array.
+    /// Indices of these chunks, each whole. The product is the number of elements of all chunks that are read, a chunk once for each task that reads it.
+    /// A chunk counts with the shape that the grid gives it, also where it reaches over the region or the array.
     pub elements_decoded: u128,
-    /// How many chunks of the target are written, counted in the same way.
+    /// Chunks of the target that groups write. The product counts a chunk once for each task that writes it. That some have to be read first isn't counted.
     pub chunks_written: u64,
 }
 
-/// Counts what [`tasks`](crate::tasks) gives. The counts of no dimensions are none: their product is 1.
+/// Counts the [`tasks`](crate::tasks) of the copy of a region, along each dimension. Without dimensions the list is empty, and each product is 1: there is
+/// one task, of one element.
 ///
-/// It takes some look-ups for each group, along each dimension by itself.
+/// It takes some look-ups for each group along each dimension, so as many as there are groups along each, added up.
 ///
 /// # Errors
 /// As of [`tasks`](crate::tasks).
@@ -53,6 +57,10 @@ pub fn task_counts<G: ChunkGridTraits, H: ChunkGridTraits>(
         → AreTasksByTarget (H.dimensions target.now) (map non_zero_u64_get task_chunks.now)
         region.now at.now tasks
         → AreTaskCounts (G.dimensions source.now) (H.dimensions target.now) tasks counts.items) }
+    ensures long { IfOk result (λ counts. length counts.items
+        ≡ length (G.dimensions source.now)) }
+    ensures empty { IsEmptyBox region.now → IfOk result (λ counts.
+        AllByRecursion AreNone counts.items) }
     ensures has { IfOk result (λ _. HasTasks (array_sizes (G.dimensions source.now))
         (array_sizes (H.dimensions target.now)) region.now at.now
         (map non_zero_u64_get task_chunks.now)) }
@@ -75,7 +83,7 @@ pub fn task_counts<G: ChunkGridTraits, H: ChunkGridTraits>(
     Ok(counts_of(alloc, &copied, target, task_chunks, &moved)?)
 }
 
-/// Counts what [`tasks_by_source`](crate::tasks_by_source) gives.
+/// Counts the [tasks by groups of the source's chunks](crate::tasks_by_source) in the same way.
 ///
 /// # Errors
 /// As of [`tasks`](crate::tasks).
@@ -91,6 +99,10 @@ pub fn task_counts_by_source<G: ChunkGridTraits, H: ChunkGridTraits>(
         → AreTasksBySource (G.dimensions source.now) (map non_zero_u64_get task_chunks.now)
         region.now at.now tasks
         → AreTaskCounts (G.dimensions source.now) (H.dimensions target.now) tasks counts.items) }
+    ensures long { IfOk result (λ counts. length counts.items
+        ≡ length (G.dimensions source.now)) }
+    ensures empty { IsEmptyBox region.now → IfOk result (λ counts.
+        AllByRecursion AreNone counts.items) }
     ensures has { IfOk result (λ _. HasTasks (array_sizes (G.dimensions source.now))
         (array_sizes (H.dimensions target.now)) region.now at.now
         (map non_zero_u64_get task_chunks.now)) }
@@ -185,10 +197,9 @@ fn counts_of_some<K: ChunkGridTraits, G: ChunkGridTraits, H: ChunkGridTraits>(
     copied: &Copied<G, H>,
     grouped: &Grouped<K>,
 ) -> Result<Vec<CountsAlong>, AllocError>
-    requires grouped { AreGrouped K.dimensions grouped.now }
-    requires copied { AreCopied (G.dimensions copied.now.source.now)
-        (H.dimensions copied.now.target.now) grouped.now.elements.now copied.now.first.now
-        copied.now.at.now }
+    requires { AreGrouped K.dimensions (G.dimensions copied.now.source.now)
+        (H.dimensions copied.now.target.now) copied.now.first.now copied.now.at.now
+        grouped.now }
     ensures { IfOk result (λ counts. AreGroupCounts (G.dimensions copied.now.source.now)
         (H.dimensions copied.now.target.now) (K.dimensions grouped.now.grid.now)
         (map non_zero_u64_get grouped.now.each.now) grouped.now.elements.now
@@ -196,7 +207,6 @@ fn counts_of_some<K: ChunkGridTraits, G: ChunkGridTraits, H: ChunkGridTraits>(
 {
     let elements = grouped.elements;
     let groups = grouped.groups;
-    elements.is_a_box();
     groups.is_a_box();
     let mut counts = Vec::with_capacity(alloc, grouped.each.len())?;
     for dimension in 0..grouped.each.len() {
@@ -226,11 +236,7 @@ fn counts_of_some<K: ChunkGridTraits, G: ChunkGridTraits, H: ChunkGridTraits>(
 
 /// The counts of no tasks, along any dimension.
 fn of_no_tasks() -> CountsAlong
-    ensures tasks { result.tasks ≡ 0 }
-    ensures largest_task { result.largest_task ≡ 0 }
-    ensures chunks_read { result.chunks_read ≡ 0 }
-    ensures elements_decoded { result.elements_decoded ≡ 0 }
-    ensures chunks_written { result.chunks_written ≡ 0 }
+    ensures { AreNone result }
 {
     CountsAlong {
         tasks: 0,

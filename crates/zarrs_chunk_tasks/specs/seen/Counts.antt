@@ -1,17 +1,17 @@
 -- How the tasks of a copy are counted, along each dimension by itself.
-use Rattle.std.specs.Prelude.{◌≡◌, ℕ, ◌+◌, ◌-◌, ◌*◌, ◌<◌, ◌≤◌, List, [], ◌∷◌, fold, length, map, max}
+use Rattle.std.specs.Prelude.{◌≡◌, ℕ, ◌+◌, ◌-◌, ◌*◌, ◌<◌, ◌≤◌, List, [], ◌∷◌, fold, length, map, max, slice_index_or}
 use Rattle.std.specs.Int.NonZero.{non_zero_u64_get}
-use Rattle.std.specs.List.{range_with_len, sum}
-use Rattle.zarrs_chunk_base.specs.ArraySubset.{Box, IsBox, IsEmptyBox, lasts}
+use Rattle.std.specs.List.{AllByRecursion, range_with_len, sum}
+use Rattle.std.specs.declared.num.NonZeroU64.{NonZeroU64}
+use Rattle.zarrs_chunk_base.specs.ArraySubset.{Box, IsBox, IsEmptyBox}
 use Rattle.zarrs_chunk_base.specs.Dimension.{Dimension, Holds, array_sizes}
 use Rattle.zarrs_chunk_base.specs.Greatest.{greatest}
 use Rattle.zarrs_chunk_axes.specs.Along.{Along}
-use Rattle.zarrs_chunks.specs.Subsets.{IsCover}
 use Rattle.zarrs_chunks.specs.Walks.{chunks_in}
 use Rattle.zarrs_chunk_plan.specs.Counts.{product}
-use Rattle.zarrs_chunk_plan.specs.Region.{EndWithin, LiesIn}
+use Rattle.zarrs_chunk_plan.specs.Region.{EndWithin}
 use Rattle.zarrs_chunk_plan.specs.seen.Sources.{RangeTakes, home, met, met_by, taken, taken_from}
-use Rattle.zarrs_chunk_tasks.specs.Counts.{in_all}
+use Rattle.zarrs_chunk_tasks.specs.Counts.{AreNone, in_all}
 use Rattle.zarrs_chunk_tasks.specs.declared.counts.CountsAlong.{CountsAlong}
 use Rattle.zarrs_chunk_tasks.specs.declared.counts.Grouped.{Grouped}
 use Rattle.zarrs_chunk_tasks.specs.declared.groups_along.GroupsAlong.{GroupsAlong}
@@ -98,18 +98,39 @@ pub record AreCopied (source target : List Dimension) (elements : Box) (first at
   pub in_source : EndWithin first elements.shape (array_sizes source)
   pub in_target : EndWithin at elements.shape (array_sizes target)
 
+-- there is a number for each dimension
+pub record AreLong (source target ds : List Dimension) (each : List NonZeroU64) (elements groups : Box) (first at : List ℕ) : Type 0 where
+  pub source_long : length source ≡ length ds
+  pub target_long : length target ≡ length ds
+  pub each_long : length each ≡ length ds
+  pub first_long : length first ≡ length ds
+  pub at_long : length at ≡ length ds
+  pub start_long : length elements.start ≡ length ds
+  pub shape_long : length elements.shape ≡ length ds
+  pub group_long : length groups.start ≡ length ds
+  pub groups_long : length groups.shape ≡ length ds
+
 module _ {K : Type 0} where
-  -- these are the groups that hold some of the elements, and the cover of these with its last chunk
-  pub record AreGrouped (dimensions : K → List Dimension) (grouped : Grouped K) : Type 0 where
-    pub lies : LiesIn grouped.elements.now (array_sizes (dimensions grouped.grid.now))
-    pub each_many : length grouped.each.now ≡ length (dimensions grouped.grid.now)
+  -- these are the groups that hold some of the elements, and along each dimension each of them takes some
+  pub record AreGrouped (dimensions : K → List Dimension) (source target : List Dimension) (first at : List ℕ) (grouped : Grouped K) : Type 0 where
     pub some : ¬ IsEmptyBox grouped.elements.now
-    pub is_cover : IsCover (dimensions grouped.grid.now) grouped.elements.now grouped.cover.now
-    pub last : grouped.last.now ≡ lasts grouped.cover.now.start grouped.cover.now.shape
     pub named : AreGroups (dimensions grouped.grid.now) (map non_zero_u64_get grouped.each.now) grouped.elements.now grouped.groups.now
+    pub long : AreLong source target (dimensions grouped.grid.now) grouped.each.now grouped.elements.now grouped.groups.now first at
+    pub cover_long : length grouped.cover.now.start ≡ length (dimensions grouped.grid.now)
+    pub last_long : length grouped.last.now ≡ length (dimensions grouped.grid.now)
+    pub first_fits : (k : ℕ) → k < length (dimensions grouped.grid.now)
+        → slice_index_or first k 0 + slice_index_or grouped.elements.now.shape k 0 ≤ greatest
+    pub at_fits : (k : ℕ) → k < length (dimensions grouped.grid.now)
+        → slice_index_or at k 0 + slice_index_or grouped.elements.now.shape k 0 ≤ greatest
+    pub take : (any : NonZeroU64) (k : ℕ) → k < length (dimensions grouped.grid.now)
+        → Along (AreTaking (non_zero_u64_get (slice_index_or grouped.each.now k any)) (slice_index_or grouped.elements.now.start k 0)
+        (slice_index_or grouped.elements.now.shape k 0) (slice_index_or grouped.cover.now.start k 0) (slice_index_or grouped.last.now k 0)
+        (slice_index_or grouped.groups.now.start k 0) (slice_index_or grouped.groups.now.shape k 0)) (dimensions grouped.grid.now) k
 
 -- The counts of the groups that hold some of a box of elements, which lies from `first` on in the source's array and from `at` on in the target's.
 pub record AreGroupCounts (source target ds : List Dimension) (each : List ℕ) (elements : Box) (first at : List ℕ) (along : List CountsAlong) : Type 0 where
+  pub long : length along ≡ length ds
+  pub of_none : IsEmptyBox elements → AllByRecursion AreNone along
   pub groups : Box
   pub is_box : IsBox groups
   pub are_groups : AreGroups ds each elements groups

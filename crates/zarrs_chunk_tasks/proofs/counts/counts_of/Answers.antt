@@ -1,11 +1,11 @@
-use Rattle.std.proofs.Common.{◌∙◌, arith, inl, refl, subst, length, ⊎_elim, map}
+use Rattle.std.proofs.Common.{◌∙◌, inl, subst, length, ⊎_elim, map}
 use Rattle.std.specs.Int.NonZero.{non_zero_u64_get}
 use Rattle.zarrs_chunk_base.specs.ArraySubset.{IsEmptyBox}
 use Rattle.zarrs_chunks.specs.Subsets.{AnswersCover, AnswersEmptyCover}
 use Rattle.zarrs_chunk_plan.proofs.MovedBoxes.{lies_some}
 use Rattle.zarrs_chunk_plan.proofs.Plans.{empty_or_some}
 use Rattle.zarrs_chunk_tasks.proofs.GroupBoxes.{zeros_empty}
-use Rattle.zarrs_chunk_tasks.proofs.GroupCounts.{none_are, some_more}
+use Rattle.zarrs_chunk_tasks.proofs.GroupCounts.{are_grouped, none_are}
 use Rattle.zarrs_chunk_tasks.proofs.counts.counts_of.Goals as goal
 
 pub groups_over-requires-clause-empty : goal.groups_over-requires-clause-empty
@@ -26,14 +26,12 @@ returns-in_default g c =
     let (_, is) = subst (AnswersCover ds elements) (c.in_ok-cover.ensures {u = tt}) (c.chunks_in_array_subset.ensures.answers (inl some)) in
     absurd (is.some no_chunks)) (empty_or_some elements.shape)
     in
-    let zero = c.of_no_tasks.ensures in
     rw (c.in_ok-vec.ensures.items_if_clones_equal (λ y same. same))
     (none_are _ _ ds (map non_zero_u64_get c.args.each.now) elements c.in_ok-groups.groups _ _ c.of_no_tasks.result (length c.args.each.now) none
-    (some_more (length c.args.each.now) (length ds) c.requires.each (lies_some ds elements c.requires.lies none)) c.in_ok-groups.ensures.is_box
-    c.in_ok-groups.ensures.groups zero.tasks zero.largest_task zero.chunks_read zero.elements_decoded zero.chunks_written)
+    c.requires.each (lies_some ds elements c.requires.lies none) c.in_ok-groups.ensures.is_box c.in_ok-groups.ensures.groups c.of_no_tasks.ensures)
 
-pub counts_of_some-requires-clause-grouped : goal.counts_of_some-requires-clause-grouped
-counts_of_some-requires-clause-grouped g c =
+pub counts_of_some-requires : goal.counts_of_some-requires
+counts_of_some-requires g c =
     let ds = g.K.ChunkGridTraits.dimensions c.args.grid.now in
     let elements = c.args.elements.now in
     let (some_chunks, last_is) = rw c.in-Some.is at (c.in_ok-last.ensures {u = tt}) in
@@ -43,11 +41,5 @@ counts_of_some-requires-clause-grouped g c =
         some_chunks (rw is (zeros_empty (length ds) any))
     in
     let (_, is_cover) = subst (AnswersCover ds elements) (c.in_ok-cover.ensures {u = tt}) (c.chunks_in_array_subset.ensures.answers (inl some)) in
-    record {
-      lies = c.requires.lies;
-      each_many = c.requires.each;
-      some = some;
-      is_cover = is_cover;
-      last = c.deref.ensures.value ∙ last_is;
-      named = c.in_ok-groups.ensures.groups;
-    }
+    are_grouped g.K.ChunkGridTraits.dimensions _ _ _ _ _ (g.met.K.ChunkGridTraits.chained c.args.grid.now) c.is_a_box.ensures c.in_ok-groups.ensures.is_box
+    c.requires.lies c.requires.each some is_cover (c.deref.ensures.value ∙ last_is) c.in_ok-groups.ensures.groups c.requires.copied

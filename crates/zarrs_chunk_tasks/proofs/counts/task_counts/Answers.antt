@@ -29,3 +29,19 @@ returns-clause-counts g c = λ tasks are.
     (g.met.G.ChunkGridTraits.chained c.args.source.now) (g.met.H.ChunkGridTraits.chained c.args.target.now) c.is_a_box.ensures
     (rw c.in_ok-moved.ensures.value at c.is_a_box-2.ensures) tasks _ are
     (rw (c.in_ok-moved.ensures.value, c.start.ensures.value) at (c.in_ok-counts_of.ensures {u = tt}))
+
+pub returns-clause-long : goal.returns-clause-long
+returns-clause-long g c =
+    let source = g.G.ChunkGridTraits.dimensions c.args.source.now in
+    let target = g.H.ChunkGridTraits.dimensions c.args.target.now in
+    let shape = c.args.region.now.shape in
+    let has = c.in_ok-moved.ensures.has in
+    let counts = c.in_ok-counts_of.ensures {u = tt} in
+    omega (
+      arith,
+      counts.long,
+      within_long _ shape (array_sizes source) has.can.in_source,
+      within_long _ shape (array_sizes target) has.can.in_target,
+      length-map source (λ (d : Dimension). d.array_size),
+      length-map target (λ (d : Dimension). d.array_size),
+    )

@@ -1,4 +1,4 @@
-use Rattle.std.proofs.Common.{◌+◌, ◌-◌, arith}
+use Rattle.std.proofs.Common.{arith}
 use Rattle.zarrs_chunk_base.specs.Dimension.{Holds}
 use Rattle.zarrs_chunk_axes.specs.Along.{IsRange}
 use Rattle.zarrs_chunk_tasks.proofs.SumsAlong.{along_within, found_is, one}

@@ -1,6 +1,5 @@
-use Rattle.std.proofs.Common.{◌≡◌, ◌+◌, ◌-◌, ◌*◌, arith, max, min, sym, subst}
+use Rattle.std.proofs.Common.{◌≡◌, arith, sym, subst}
 use Rattle.std.specs.Int.NonZero.{non_zero_u64_get}
-use Rattle.zarrs_chunk_axes.specs.Along.{IsRange}
 use Rattle.zarrs_chunks.proofs.Chains.{at_most_start}
 use Rattle.zarrs_chunk_tasks.specs.seen.Counts.{IsTaken}
 use Rattle.zarrs_chunk_tasks.proofs.GroupBoxes.{first_in, last_in, reaching}

@@ -1,4 +1,4 @@
-use Rattle.std.proofs.Common.{◌≡◌, ◌+◌, arith, max, refl, subst, sym}
+use Rattle.std.proofs.Common.{◌≡◌, ◌+◌, arith, refl, subst}
 use Rattle.std.specs.Int.NonZero.{non_zero_u64_get}
 use Rattle.zarrs_chunk_plan.specs.seen.Sources.{TakesSome}
 use Rattle.zarrs_chunk_tasks.specs.seen.Counts.{AreMetAlong, IsTaken}
