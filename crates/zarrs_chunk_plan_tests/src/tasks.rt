@@ -133,8 +133,8 @@ fn lines_of_counts(alloc: Global, counts: &[CountsAlong]) -> Result<String, Fail
     Ok(lines)
 }
 
-/// Along four dimensions there is one element. Along the last one the first task reads chunks 0 and 1 of the source and writes chunks 0 and 1 of the
-/// target, the second reads 1 and 2 and writes 2.
+/// Along four dimensions there is one element. Along the last one the first task reads chunks 0 and 1, and writes 0 and 1. The second reads 1 and 2, and
+/// writes 2.
 const COUNTS_BY_TARGET: &str = "1 1 1 1 1\n1 1 1 1 1\n1 1 1 1 1\n1 1 1 1 1\n2 5 4 16 3\n";
 
 /// The first task reads chunks 0 and 1 and writes all three, the second reads chunk 2 and writes chunk 2.

@@ -32,7 +32,6 @@ use Rattle.zarrs_chunk_tasks.specs.seen.Tasks.{AreGroups}
 use Rattle.zarrs_chunk_tasks.specs.seen.GroupNumbers.{groups_of}
 use Rattle.zarrs_chunk_tasks.proofs.CountsOfEach.{Count, each_long, in_box_many, tables_long}
 use Rattle.zarrs_chunk_tasks.proofs.GroupBoxes.{AreOver, AsMany, as_many_each, fewer, groups, in_group, joins, meets_as_chunk, numbers}
-use Rattle.zarrs_chunk_tasks.proofs.Grouped.{as_many_grouped}
 use Rattle.zarrs_chunk_tasks.proofs.SumsAlong.{One}
 
 -- ---- one of the dimensions

@@ -32,10 +32,14 @@ one (d ∷ ds) zero chains within = record { d = d; chain = chains.0; at = λ Q 
 one (d ∷ ds) (suc k) chains within =
     let rest = one ds k chains.1 (omega arith) in record { d = rest.d; chain = rest.chain; at = rest.at; back = rest.back }
 
-pub along_within : (P : Dimension → Type 0) (ds : List Dimension) (k : ℕ) → Along P ds k → k < length ds
+along_within : (P : Dimension → Type 0) (ds : List Dimension) (k : ℕ) → Along P ds k → k < length ds
 along_within P [] k has = absurd has
 along_within P (d ∷ ds) zero has = omega arith
 along_within P (d ∷ ds) (suc k) has = let rest = along_within P ds k has in omega arith
+
+-- the dimension that has a property
+pub one_of : (P : Dimension → Type 0) (ds : List Dimension) (k : ℕ) → AllByRecursion IsChain ds → Along P ds k → One ds k
+one_of P ds k chains has = one ds k chains (along_within P ds k has)
 
 -- ---- the chunks that hold some of a range
 

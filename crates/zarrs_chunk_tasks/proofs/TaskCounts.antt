@@ -27,7 +27,7 @@ use Rattle.zarrs_chunk_tasks.specs.seen.Counts.{AreGroupCounts, indices, of_grou
 use Rattle.zarrs_chunk_tasks.proofs.CountsOfEach.{Count, box_is_met, map_of_map, of_ranges, shares_of}
 use Rattle.zarrs_chunk_tasks.proofs.GroupBoxes.{groups, meets_as_chunk, numbers, taken_is_buffer}
 use Rattle.zarrs_chunk_tasks.proofs.Grouped.{as_many_grouped}
-use Rattle.zarrs_chunk_tasks.proofs.TaskLaws.{at_sizes, at_starts, ends_inside, region_sizes, region_starts, source_long, still_within, target_long}
+use Rattle.zarrs_chunk_tasks.proofs.TaskLaws.{as_many_dimensions, at_starts, chunks_of_source, ends_inside, region_starts, source_long, still_within, target_long}
 
 -- a box that lies in another one, shifted with it, is a box
 shifted_is_box : (first steps sizes shape : List ℕ) → IsBox (record { start = first; shape = shape }) → EndWithin steps sizes shape
@@ -209,22 +209,16 @@ module _ (source target : List Dimension) (region : Box) (at : List ℕ) (each :
     (has : HasTasks (array_sizes source) (array_sizes target) region at (numbers each)) (source_chains : AllByRecursion IsChain source)
     (target_chains : AllByRecursion IsChain target) (is_region : IsBox region) (is_moved : IsBox (moved at region)) (tasks : List Task)
     (along : List CountsAlong) where
-  as_many_sizes : length (array_sizes source) ≡ length (array_sizes target)
-  as_many_sizes =
-      omega (arith, region_sizes source target region at (numbers each) has tasks, at_sizes source target region at (numbers each) has tasks)
-
   same_many : length source ≡ length target
-  same_many =
-      omega (arith, as_many_sizes, source_long source target region at (numbers each) has tasks, target_long source target region at (numbers each) has tasks)
+  same_many = as_many_dimensions source target region at (numbers each) has
 
   each_many : length each ≡ length source
-  each_many =
-      omega (arith, has.lengths, length-map each non_zero_u64_get, source_long source target region at (numbers each) has tasks)
+  each_many = sym (length-map each non_zero_u64_get) ∙ chunks_of_source source target region at (numbers each) has
 
   pub counts_by_target : AreTasksByTarget target (numbers each) region at tasks
       → AreGroupCounts source target target (numbers each) (moved at region) region.start at along → AreTaskCounts source target tasks along
   counts_by_target are counts =
-      task_counts_are target each (moved at region) target_chains (omega (arith, each_many, same_many)) is_moved
+      task_counts_are target each (moved at region) target_chains (each_many ∙ same_many) is_moved
       (omega (arith, at_starts source target region at (numbers each) has tasks, target_long source target region at (numbers each) has tasks)) source target
       region.start at source_chains target_chains same_many refl is_region is_moved has.can.in_source has.can.in_target tasks along are counts
 

@@ -262,6 +262,25 @@ module _ {ds : List Dimension} {each : List ℕ} {elements : Box} {first at : Li
         subst (λ (b : Box). LiesIn b target) (sym is.target) (still_within at is.behind.start is.behind.shape elements.shape target ends into_lies),
       )
 
+-- ---- the numbers of dimensions
+
+module _ (source target : List Dimension) (region : Box) (at each : List ℕ) (has : HasTasks (array_sizes source) (array_sizes target) region at each) where
+  pub as_many_dimensions : length source ≡ length target
+  as_many_dimensions =
+      omega (
+        arith,
+        within_long region.start region.shape (array_sizes source) has.can.in_source,
+        within_long at region.shape (array_sizes target) has.can.in_target,
+        length-map source (λ (d : Dimension). d.array_size),
+        length-map target (λ (d : Dimension). d.array_size),
+      )
+
+  pub chunks_of_source : length each ≡ length source
+  chunks_of_source = has.lengths ∙ length-map source (λ (d : Dimension). d.array_size)
+
+  pub chunks_of_target : length each ≡ length target
+  chunks_of_target = chunks_of_source ∙ as_many_dimensions
+
 -- ---- by either array
 
 module _ (source target : List Dimension) (region : Box) (at each : List ℕ) (has : HasTasks (array_sizes source) (array_sizes target) region at each)

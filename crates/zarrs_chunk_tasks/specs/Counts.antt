@@ -9,7 +9,7 @@ use Rattle.zarrs_chunk_plan.specs.Counts.{AreMany, product}
 use Rattle.zarrs_chunk_tasks.specs.declared.counts.CountsAlong.{CountsAlong}
 use Rattle.zarrs_chunk_tasks.specs.declared.task.Task.{Task}
 
--- So many chunks hold some of a box of elements, and so many elements these chunks have, each whole.
+-- How many chunks hold some of a box of elements, and how many elements these chunks have, each whole.
 pub record AreMet (ds : List Dimension) (b : Box) (met : ℕ × ℕ) : Type 0 where
   pub chunks : AreMany (Meets ds b) met.0
   pub shapes : List (List ℕ)

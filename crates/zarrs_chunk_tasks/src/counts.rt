@@ -41,7 +41,7 @@ pub struct CountsAlong {
 /// Counts the [`tasks`](crate::tasks) of the copy of a region, along each dimension. Without dimensions the list is empty, and each product is 1: there is
 /// one task, of one element.
 ///
-/// It takes some look-ups for each group along each dimension, so as many as there are groups along each, added up.
+/// It takes some look-ups for each group along each dimension by itself.
 ///
 /// # Errors
 /// As of [`tasks`](crate::tasks).

@@ -34,7 +34,7 @@ whole d first size = d.end (home d (first + (size - 1))) - d.start (home d first
 abbrev pub of_group : (Dimension → (first size : ℕ) → ℕ) → (d g : Dimension) → (first at size group : ℕ) → ℕ
 of_group count d g first at size group = count d (first + (taken_from g at group - at)) (taken g at size group)
 
--- of so many groups
+-- of neighbouring groups
 abbrev pub of_groups : (Dimension → (first size : ℕ) → ℕ) → (d g : Dimension) → (first at size group groups : ℕ) → List ℕ
 of_groups count d g first at size group groups = map (of_group count d g first at size) (range_with_len group groups)
 
@@ -52,14 +52,14 @@ pub record AreMetAlong (d : Dimension) (first size : ℕ) (found : Met) : Type 0
   pub few : found.chunks ≤ size
   pub small : found.elements ≤ found.chunks * greatest
 
--- the range is that of some indices, whose first and last one these chunks hold
+-- the range isn't empty, and its first and its last index lie in these chunks
 pub record AreOver (d : Dimension) (at size first last : ℕ) : Type 0 where
   pub some : 0 < size
   pub fits : at + size ≤ greatest
   pub low : Holds d first at
   pub high : Holds d last (at + (size - 1))
 
--- and each of so many groups of k chunks takes some of it
+-- and each of these groups of k chunks takes some of it
 pub record AreTaking (k at size first last group groups : ℕ) (d : Dimension) : Type 0 where
   pub over : AreOver d at size first last
   pub take : RangeTakes (grouped d k) at size group groups
@@ -70,7 +70,7 @@ pub record IsTaken (d : Dimension) (k at size group : ℕ) (range : ℕ × ℕ) 
   pub before : range.0 ≡ taken_from (grouped d k) at group - at
   pub many : range.1 ≡ taken (grouped d k) at size group
 
--- the sums of what is counted of so many groups, in the range from `first` on of another dimension
+-- the sums of what is counted of neighbouring groups, in the range from `first` on of another dimension
 pub record AreSums (k at size group many first : ℕ) (d other : Dimension) (sums : Sums) : Type 0 where
   pub largest : sums.largest ≡ fold max 0 (of_groups indices other (grouped d k) first at size group many)
   pub chunks : sums.chunks ≡ sum (of_groups met other (grouped d k) first at size group many)

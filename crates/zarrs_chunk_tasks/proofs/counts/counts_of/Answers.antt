@@ -36,9 +36,9 @@ counts_of_some-requires g c =
     let elements = c.args.elements.now in
     let (some_chunks, last_is) = rw c.in-Some.is at (c.in_ok-last.ensures {u = tt}) in
     let some : ¬ IsEmptyBox elements = λ empty.
-        let any = lies_some ds elements c.requires.lies empty in
-        let is = subst (AnswersEmptyCover ds) (c.in_ok-cover.ensures {u = tt}) (c.chunks_in_array_subset.ensures.empty empty any) in
-        some_chunks (rw is (zeros_empty (length ds) any))
+    let any = lies_some ds elements c.requires.lies empty in
+    let is = subst (AnswersEmptyCover ds) (c.in_ok-cover.ensures {u = tt}) (c.chunks_in_array_subset.ensures.empty empty any) in
+    some_chunks (rw is (zeros_empty (length ds) any))
     in
     let (_, is_cover) = subst (AnswersCover ds elements) (c.in_ok-cover.ensures {u = tt}) (c.chunks_in_array_subset.ensures.answers (inl some)) in
     are_grouped g.K.ChunkGridTraits.dimensions _ _ _ _ _ (g.met.K.ChunkGridTraits.chained c.args.grid.now) c.is_a_box.ensures c.in_ok-groups.ensures.is_box

@@ -36,30 +36,40 @@ sums_along-requires-clause-other g c = omega (arith, c.loop-dimension-test.true,
 
 pub sums_along-requires-in-loop-dimension-clause-other :
     goal.sums_along-requires-in-loop-dimension-clause-other
-sums_along-requires-in-loop-dimension-clause-other g c = 
+sums_along-requires-in-loop-dimension-clause-other g c =
     omega (arith, c.loop-dimension-test.true, c.requires.long.each_long, c.requires.long.target_long)
 
 pub sums_along-requires-clause-groups : goal.sums_along-requires-clause-groups
-sums_along-requires-clause-groups g c = 
-    rw (c.start.ensures.value, c.shape.ensures.value, c.start-in-loop-dimension.ensures.value, c.start-in-loop-dimension-2.ensures.value,
-    c.shape-in-loop-dimension.ensures.value)
+sums_along-requires-clause-groups g c =
+    rw (
+      c.start.ensures.value,
+      c.shape.ensures.value,
+      c.start-in-loop-dimension.ensures.value,
+      c.start-in-loop-dimension-2.ensures.value,
+      c.shape-in-loop-dimension.ensures.value,
+    )
     (c.requires.take c.index-grouped-dimension.result c.loop-dimension.dimension (omega (arith, c.loop-dimension-test.true, c.requires.long.each_long)))
 
 pub sums_along-requires-in-loop-dimension-clause-groups :
     goal.sums_along-requires-in-loop-dimension-clause-groups
-sums_along-requires-in-loop-dimension-clause-groups g c = 
-    rw (c.start.ensures.value, c.shape.ensures.value, c.start-in-loop-dimension.ensures.value, c.start-in-loop-dimension-2.ensures.value,
-    c.shape-in-loop-dimension.ensures.value)
+sums_along-requires-in-loop-dimension-clause-groups g c =
+    rw (
+      c.start.ensures.value,
+      c.shape.ensures.value,
+      c.start-in-loop-dimension.ensures.value,
+      c.start-in-loop-dimension-2.ensures.value,
+      c.shape-in-loop-dimension.ensures.value,
+    )
     (c.requires.take c.index-grouped-dimension.result c.loop-dimension.dimension (omega (arith, c.loop-dimension-test.true, c.requires.long.each_long)))
 
 pub sums_along-requires-clause-first : goal.sums_along-requires-clause-first
-sums_along-requires-clause-first g c = 
+sums_along-requires-clause-first g c =
     rw c.shape.ensures.value
     (c.requires.first_fits c.loop-dimension.dimension (omega (arith, c.loop-dimension-test.true, c.requires.long.each_long)))
 
 pub sums_along-requires-in-loop-dimension-clause-first :
     goal.sums_along-requires-in-loop-dimension-clause-first
-sums_along-requires-in-loop-dimension-clause-first g c = 
+sums_along-requires-in-loop-dimension-clause-first g c =
     rw c.shape.ensures.value
     (c.requires.at_fits c.loop-dimension.dimension (omega (arith, c.loop-dimension-test.true, c.requires.long.each_long)))
 

@@ -3,7 +3,7 @@ use Rattle.std.specs.Int.NonZero.{non_zero_u64_get}
 use Rattle.zarrs_chunks.proofs.Chains.{at_most_start}
 use Rattle.zarrs_chunk_tasks.specs.seen.Counts.{IsTaken}
 use Rattle.zarrs_chunk_tasks.proofs.GroupBoxes.{first_in, last_in, reaching}
-use Rattle.zarrs_chunk_tasks.proofs.SumsAlong.{along_within, one, taken_is}
+use Rattle.zarrs_chunk_tasks.proofs.SumsAlong.{one_of, taken_is}
 use Rattle.zarrs_chunk_tasks.proofs.groups_along.range_of.Goals as goal
 
 pub returns : goal.returns
@@ -11,8 +11,7 @@ returns g c =
     let groups = c.args.groups.now in
     let k = non_zero_u64_get groups.each in
     let t = c.args.group in
-    let ds = g.K.ChunkGridTraits.dimensions groups.grid.now in
-    let it = one ds groups.dimension (g.met.K.ChunkGridTraits.chained groups.grid.now) (along_within _ ds groups.dimension c.requires.over) in
+    let it = one_of _ _ groups.dimension (g.met.K.ChunkGridTraits.chained groups.grid.now) c.requires.over in
     let over = it.at _ c.requires.over in
     let takes = it.at _ c.requires.takes in
     let is = reaching it.d k groups.at groups.size groups.first groups.last t it.chain over.some over.low over.high takes in

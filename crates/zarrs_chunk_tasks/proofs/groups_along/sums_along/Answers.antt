@@ -3,30 +3,27 @@ use Rattle.std.specs.Int.NonZero.{non_zero_u64_get}
 use Rattle.zarrs_chunk_plan.specs.seen.Sources.{TakesSome}
 use Rattle.zarrs_chunk_tasks.specs.seen.Counts.{AreMetAlong, IsTaken}
 use Rattle.zarrs_chunk_tasks.specs.seen.Grouped.{grouped}
-use Rattle.zarrs_chunk_tasks.proofs.SumsAlong.{along_within, none_so_far, one, one_more, takes_here}
+use Rattle.zarrs_chunk_tasks.proofs.SumsAlong.{none_so_far, one, one_more, one_of, takes_here}
 use Rattle.zarrs_chunk_tasks.proofs.groups_along.sums_along.Goals as goal
 
 pub loop-steps-init : goal.loop-steps-init
 loop-steps-init g c =
     let groups = c.args.groups.now in
-    let ds = g.K.ChunkGridTraits.dimensions groups.grid.now in
-    let it = one ds groups.dimension (g.met.K.ChunkGridTraits.chained groups.grid.now) (along_within _ ds groups.dimension c.requires.groups) in
+    let it = one_of _ _ groups.dimension (g.met.K.ChunkGridTraits.chained groups.grid.now) c.requires.groups in
     let other = one _ groups.dimension (g.met.G.ChunkGridTraits.chained c.args.other.now) c.requires.other in
     it.back _ (other.back _ (none_so_far (non_zero_u64_get groups.each) groups.at groups.size groups.group groups.groups c.args.first it.d other.d _ refl refl refl))
 
 pub range_of-requires-clause-over : goal.range_of-requires-clause-over
 range_of-requires-clause-over g c =
     let groups = c.args.groups.now in
-    let ds = g.K.ChunkGridTraits.dimensions groups.grid.now in
-    let it = one ds groups.dimension (g.met.K.ChunkGridTraits.chained groups.grid.now) (along_within _ ds groups.dimension c.requires.groups) in
+    let it = one_of _ _ groups.dimension (g.met.K.ChunkGridTraits.chained groups.grid.now) c.requires.groups in
     let taking = it.at _ c.requires.groups in
     it.back _ taking.over
 
 pub range_of-requires-clause-takes : goal.range_of-requires-clause-takes
 range_of-requires-clause-takes g c =
     let groups = c.args.groups.now in
-    let ds = g.K.ChunkGridTraits.dimensions groups.grid.now in
-    let it = one ds groups.dimension (g.met.K.ChunkGridTraits.chained groups.grid.now) (along_within _ ds groups.dimension c.requires.groups) in
+    let it = one_of _ _ groups.dimension (g.met.K.ChunkGridTraits.chained groups.grid.now) c.requires.groups in
     let taking = it.at _ c.requires.groups in
     let group_is : groups.group + c.loop-steps.steps ≡ c.saturating_add-group.result =
     omega (arith, c.saturating_add-group.ensures, taking.groups_fit, c.loop-steps-test.true) in
@@ -38,8 +35,7 @@ range_of-requires-clause-takes g c =
 pub met_along-requires-clause-some : goal.met_along-requires-clause-some
 met_along-requires-clause-some g c =
     let groups = c.args.groups.now in
-    let ds = g.K.ChunkGridTraits.dimensions groups.grid.now in
-    let it = one ds groups.dimension (g.met.K.ChunkGridTraits.chained groups.grid.now) (along_within _ ds groups.dimension c.requires.groups) in
+    let it = one_of _ _ groups.dimension (g.met.K.ChunkGridTraits.chained groups.grid.now) c.requires.groups in
     let taking = it.at _ c.requires.groups in
     let is = it.at _ (c.in_ok-before.ensures {u = tt}) in
     let (_, takes) = taking.take c.saturating_add-group.result (omega (arith, c.saturating_add-group.ensures, taking.groups_fit, c.loop-steps-test.true))
@@ -49,8 +45,7 @@ met_along-requires-clause-some g c =
 pub met_along-requires-clause-fits : goal.met_along-requires-clause-fits
 met_along-requires-clause-fits g c =
     let groups = c.args.groups.now in
-    let ds = g.K.ChunkGridTraits.dimensions groups.grid.now in
-    let it = one ds groups.dimension (g.met.K.ChunkGridTraits.chained groups.grid.now) (along_within _ ds groups.dimension c.requires.groups) in
+    let it = one_of _ _ groups.dimension (g.met.K.ChunkGridTraits.chained groups.grid.now) c.requires.groups in
     let taking = it.at _ c.requires.groups in
     let is = it.at _ (c.in_ok-before.ensures {u = tt}) in
     let (_, takes) = taking.take c.saturating_add-group.result (omega (arith, c.saturating_add-group.ensures, taking.groups_fit, c.loop-steps-test.true))
@@ -61,8 +56,7 @@ pub loop-steps-preserved : goal.loop-steps-preserved
 loop-steps-preserved g c =
     let groups = c.args.groups.now in
     let k = non_zero_u64_get groups.each in
-    let ds = g.K.ChunkGridTraits.dimensions groups.grid.now in
-    let it = one ds groups.dimension (g.met.K.ChunkGridTraits.chained groups.grid.now) (along_within _ ds groups.dimension c.requires.groups) in
+    let it = one_of _ _ groups.dimension (g.met.K.ChunkGridTraits.chained groups.grid.now) c.requires.groups in
     let other = one _ groups.dimension (g.met.G.ChunkGridTraits.chained c.args.other.now) c.requires.other in
     let taking = it.at _ c.requires.groups in
     let so_far = other.at _ (it.at _ c.loop-steps.invariant) in
@@ -85,8 +79,7 @@ loop-steps-preserved g c =
 pub returns : goal.returns
 returns g c =
     let groups = c.args.groups.now in
-    let ds = g.K.ChunkGridTraits.dimensions groups.grid.now in
-    let it = one ds groups.dimension (g.met.K.ChunkGridTraits.chained groups.grid.now) (along_within _ ds groups.dimension c.requires.groups) in
+    let it = one_of _ _ groups.dimension (g.met.K.ChunkGridTraits.chained groups.grid.now) c.requires.groups in
     let other = one _ groups.dimension (g.met.G.ChunkGridTraits.chained c.args.other.now) c.requires.other in
     let so_far = other.at _ (it.at _ c.loop-steps.invariant) in
     let ended : c.loop-steps.steps ≡ groups.groups = omega (arith, c.loop-steps-test.false, c.loop-steps.auto.steps-end) in
