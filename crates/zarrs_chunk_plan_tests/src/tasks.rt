@@ -190,6 +190,61 @@ fn a_border_chunk_is_decoded_whole(rt: HostRuntime) -> Result<(), Fail> {
     Ok(())
 }
 
+/// 10^18 elements from chunks of 4 to chunks of 3, two of these a task. Chunks and tasks begin together at each twelfth element.
+const MANY_BY_TARGET: &str = "\
+1 1 1 1 1
+1 1 1 1 1
+1 1 1 1 1
+1 1 1 1 1
+166666666666666667 6 333333333333333333 1333333333333333332 333333333333333334
+";
+
+/// The same by two chunks of the source a task, so each is read once.
+const MANY_BY_SOURCE: &str = "\
+1 1 1 1 1
+1 1 1 1 1
+1 1 1 1 1
+1 1 1 1 1
+125000000000000000 8 250000000000000000 1000000000000000000 416666666666666667
+";
+
+/// From 1 on to 2 on, chunks and tasks never begin together.
+const MANY_MOVED: &str = "\
+1 1 1 1 1
+1 1 1 1 1
+1 1 1 1 1
+1 1 1 1 1
+166666666666666667 6 416666666666666666 1666666666666666664 333333333333333333
+";
+
+#[test]
+fn many_tasks_are_counted(rt: HostRuntime) -> Result<(), Fail> {
+    let alloc = rt.alloc();
+    let size = 1_000_000_000_000_000_000;
+    let (source, target) = (row(alloc, size, 4)?, row(alloc, size, 3)?);
+    let (all, most, each) = (
+        some_of(alloc, 0, size)?,
+        some_of(alloc, 1, size - 3)?,
+        edges_of(alloc, 2)?,
+    );
+    let (from, into) = (&source.grid, &target.grid);
+    let counts = task_counts(alloc, from, into, &all, &[0; 5], &each)?;
+    check_text(
+        &rt,
+        lines_of_counts(alloc, &counts)?.as_str(),
+        MANY_BY_TARGET,
+    );
+    let counts = task_counts_by_source(alloc, from, into, &all, &[0; 5], &each)?;
+    check_text(
+        &rt,
+        lines_of_counts(alloc, &counts)?.as_str(),
+        MANY_BY_SOURCE,
+    );
+    let counts = task_counts(alloc, from, into, &most, &[0, 0, 0, 0, 2], &each)?;
+    check_text(&rt, lines_of_counts(alloc, &counts)?.as_str(), MANY_MOVED);
+    Ok(())
+}
+
 /// Why a copy has no tasks.
 fn why(
     alloc: Global,

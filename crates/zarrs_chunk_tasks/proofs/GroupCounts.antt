@@ -16,9 +16,9 @@ use Rattle.zarrs_chunks.specs.Walks.{chunks_in}
 use Rattle.zarrs_chunks.proofs.ChunksInBoxes.{are_those_inside}
 use Rattle.zarrs_chunks.proofs.Covers.{head_some, tail_some}
 use Rattle.zarrs_chunk_plan.specs.Counts.{product}
-use Rattle.zarrs_chunk_plan.specs.Region.{LiesIn}
+use Rattle.zarrs_chunk_plan.specs.Region.{EndWithin, LiesIn}
 use Rattle.zarrs_chunk_plan.specs.seen.Sources.{met, met_by, met_in}
-use Rattle.zarrs_chunk_plan.proofs.MovedBoxes.{within_long}
+use Rattle.zarrs_chunk_plan.proofs.MovedBoxes.{within_long, within_starts}
 use Rattle.zarrs_chunk_plan.proofs.Plans.{not_empty_if_inside}
 use Rattle.zarrs_chunk_plan.proofs.Products.{greatest_of, greatest_of_products, met_by_all, products, sum_of_products}
 use Rattle.zarrs_chunk_plan.proofs.TakenBoxes.{AllTakeSome, meets_take}
@@ -46,23 +46,24 @@ first_within _ _ e some = absurd (omega arith)
 
 -- where each group of a box takes some of the elements, each one does so along each dimension
 all_taking : (ds : List Dimension) (each : List NonZeroU64) (start shape first last group groups_ : List ℕ) (any : NonZeroU64) (k : ℕ)
-    → AsMany ds each start shape first last → length group ≡ length ds → length groups_ ≡ length ds → (¬ Contains shape 0) → (¬ Contains groups_ 0)
+    → AsMany ds each start shape first last → EndWithin start shape (array_sizes ds) → length group ≡ length ds → length groups_ ≡ length ds
+    → (¬ Contains shape 0) → (¬ Contains groups_ 0)
     → AllFit (ends start shape) → AllFit (ends group groups_) → AreOver ds start shape first last
     → ((numbers : List ℕ) → AreWithin group groups_ numbers → AllTakeSome (groups ds each) start shape numbers) → k < length ds
     → Along (AreTaking (non_zero_u64_get (slice_index_or each k any)) (slice_index_or start k 0) (slice_index_or shape k 0) (slice_index_or first k 0)
     (slice_index_or last k 0) (slice_index_or group k 0) (slice_index_or groups_ k 0)) ds k
-all_taking (d ∷ ds) (k ∷ each) (a ∷ start) (n ∷ shape) (f ∷ first) (l ∷ last) (t ∷ group) (m ∷ groups_) any zero long e g some many fit fit_groups over takes
+all_taking (d ∷ ds) (k ∷ each) (a ∷ start) (n ∷ shape) (f ∷ first) (l ∷ last) (t ∷ group) (m ∷ groups_) any zero long lies e g some many fit fit_groups over takes
     within = record {
-      over = record { some = head_some n shape some; fits = fit.0; low = over.0.0; high = over.1.0 };
+      over = record { some = head_some n shape some; fits = fit.0; within = lies.0; low = over.0.0; high = over.1.0 };
       take = λ u from below. (takes (u ∷ group) (from, below, first_within group groups_ (omega arith) (tail_some m groups_ many))).0;
       groups_fit = fit_groups.0;
     }
-all_taking (d ∷ ds) (k ∷ each) (a ∷ start) (n ∷ shape) (f ∷ first) (l ∷ last) (t ∷ group) (m ∷ groups_) any (suc j) long e g some many fit fit_groups over takes
+all_taking (d ∷ ds) (k ∷ each) (a ∷ start) (n ∷ shape) (f ∷ first) (l ∷ last) (t ∷ group) (m ∷ groups_) any (suc j) long lies e g some many fit fit_groups over takes
     within =
     let here = head_some m groups_ many in
-    all_taking ds each start shape first last group groups_ any j (fewer long) (omega arith) (omega arith) (tail_some n shape some) (tail_some m groups_ many)
+    all_taking ds each start shape first last group groups_ any j (fewer long) lies.1 (omega arith) (omega arith) (tail_some n shape some) (tail_some m groups_ many)
     fit.1 fit_groups.1 (over.0.1, over.1.1) (λ numbers inside. (takes (t ∷ numbers) (omega arith, omega arith, inside)).1) (omega arith)
-all_taking _ _ _ _ _ _ _ _ any k long e g some many fit fit_groups over takes within =
+all_taking _ _ _ _ _ _ _ _ any k long lies e g some many fit fit_groups over takes within =
     absurd (omega (arith, long.each_many, long.start_many, long.shape_many, long.first_many, long.last_many))
 
 -- what holds of the counts of the groups along the dimension of a number holds of their row in the table
@@ -282,14 +283,14 @@ some_groups source target ds each elements cover group_box first at chains many 
 
 -- each of the groups takes some of the elements, along each dimension
 groups_take : (ds : List Dimension) (each : List NonZeroU64) (elements cover group_box : Box) → AllByRecursion IsChain ds → (many : length each ≡ length ds)
-    → IsBox elements → (¬ IsEmptyBox elements) → IsCover ds elements cover → IsBox group_box → AreGroups ds (numbers each) elements group_box
-    → length group_box.start ≡ length ds → (¬ Contains group_box.shape 0) → (any : NonZeroU64) (k : ℕ) → k < length ds
+    → IsBox elements → (¬ IsEmptyBox elements) → LiesIn elements (array_sizes ds) → IsCover ds elements cover → IsBox group_box
+    → AreGroups ds (numbers each) elements group_box → length group_box.start ≡ length ds → (¬ Contains group_box.shape 0) → (any : NonZeroU64) (k : ℕ) → k < length ds
     → Along (AreTaking (non_zero_u64_get (slice_index_or each k any)) (slice_index_or elements.start k 0) (slice_index_or elements.shape k 0)
     (slice_index_or cover.start k 0) (slice_index_or (lasts cover.start cover.shape) k 0) (slice_index_or group_box.start k 0)
     (slice_index_or group_box.shape k 0)) ds k
-groups_take ds each elements cover group_box chains many is_box some is is_groups named group_long some_group any k within =
+groups_take ds each elements cover group_box chains many is_box some lies is is_groups named group_long some_group any k within =
     all_taking ds each elements.start elements.shape cover.start (lasts cover.start cover.shape) group_box.start group_box.shape any k
-    (as_many_each ds each chains many elements cover is_box is) group_long (omega (arith, group_long, is_groups.lengths)) some some_group is_box.fits
+    (as_many_each ds each chains many elements cover is_box is) lies group_long (omega (arith, group_long, is_groups.lengths)) some some_group is_box.fits
     is_groups.fits (is.first, is.last)
     (λ group inside. meets_take (groups ds each) elements group ((meets_as_chunk ds each chains many elements group).0 ((named group).0 inside))) within
 
@@ -299,6 +300,14 @@ end_fits : (start shape : List ℕ) (k : ℕ) → AllFit (ends start shape) → 
 end_fits (s ∷ start) (n ∷ shape) zero fit one other = fit.0
 end_fits (s ∷ start) (n ∷ shape) (suc k) fit one other = end_fits start shape k fit.1 (omega arith) (omega arith)
 end_fits _ _ k fit one other = absurd (omega arith)
+
+lies_at : (ds : List Dimension) (start shape : List ℕ) (k : ℕ) → EndWithin start shape (array_sizes ds) → k < length ds
+    → Along (λ d. slice_index_or start k 0 + slice_index_or shape k 0 ≤ d.array_size) ds k
+lies_at (d ∷ ds) (s ∷ start) (n ∷ shape) zero lies within = lies.0
+lies_at (d ∷ ds) (s ∷ start) (n ∷ shape) (suc k) lies within = lies_at ds start shape k lies.1 (omega arith)
+lies_at [] start shape k lies within = absurd (omega arith)
+lies_at (d ∷ ds) start shape k lies within =
+    let sizes = array_sizes (d ∷ ds) in absurd (omega (arith, within_starts start shape sizes lies, within_long start shape sizes lies))
 
 -- what is found of elements that aren't none is what is counted
 module _ {K : Type 0} (dimensions : K → List Dimension) (source target : List Dimension) (first at : List ℕ) (given : Grouped K)
@@ -322,12 +331,14 @@ module _ {K : Type 0} (dimensions : K → List Dimension) (source target : List 
         long = long;
         cover_long = each.first_many;
         last_long = ap length last ∙ each.last_many;
+        in_source = λ k within. lies_at source first given.elements.now.shape k copied.in_source (omega (arith, within, long.source_long));
+        in_target = λ k within. lies_at target at given.elements.now.shape k copied.in_target (omega (arith, within, long.target_long));
         first_fits = λ k within. end_fits first given.elements.now.shape k copied.from.fits (omega (arith, within, long.first_long))
             (omega (arith, within, long.shape_long));
         at_fits = λ k within. end_fits at given.elements.now.shape k copied.into.fits (omega (arith, within, long.at_long))
             (omega (arith, within, long.shape_long));
         take = λ any k within.
             rw last
-            (groups_take ds given.each.now given.elements.now given.cover.now given.groups.now chains many is_box some is is_groups named long.group_long
+            (groups_take ds given.each.now given.elements.now given.cover.now given.groups.now chains many is_box some lies is is_groups named long.group_long
             there.many any k within);
       }

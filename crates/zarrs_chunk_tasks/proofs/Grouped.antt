@@ -19,7 +19,7 @@ pub joined_from : (k t c : ℕ) → 0 < k → c / k ≡ t → (t * k ≤ c) × (
 joined_from k t c some joined =
     (subst (λ q. q * k ≤ c) joined (div-mul-le_self c k), subst (λ q. c < q * k + k) joined (lt-div-mul-add {a = c} some))
 
-next_group : (t k : ℕ) → (t + 1) * k ≡ t * k + k
+pub next_group : (t k : ℕ) → (t + 1) * k ≡ t * k + k
 next_group t k = rw (add-one t) (suc-mul t k)
 
 pub are_joined : (k t c : ℕ) → t * k ≤ c → c < t * k + k → c / k ≡ t

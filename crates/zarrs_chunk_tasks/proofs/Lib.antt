@@ -2,6 +2,7 @@ mod CountsOfEach
 mod GroupBoxes
 mod GroupCounts
 mod Grouped
+mod RegularSums
 mod Sharing
 mod SomeTasks
 mod SumsAlong

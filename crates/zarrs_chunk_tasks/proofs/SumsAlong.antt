@@ -32,7 +32,7 @@ one (d ∷ ds) zero chains within = record { d = d; chain = chains.0; at = λ Q 
 one (d ∷ ds) (suc k) chains within =
     let rest = one ds k chains.1 (omega arith) in record { d = rest.d; chain = rest.chain; at = rest.at; back = rest.back }
 
-along_within : (P : Dimension → Type 0) (ds : List Dimension) (k : ℕ) → Along P ds k → k < length ds
+pub along_within : (P : Dimension → Type 0) (ds : List Dimension) (k : ℕ) → Along P ds k → k < length ds
 along_within P [] k has = absurd has
 along_within P (d ∷ ds) zero has = omega arith
 along_within P (d ∷ ds) (suc k) has = let rest = along_within P ds k has in omega arith
@@ -109,19 +109,13 @@ taken_is d k a n f l t start edge last_start last_edge before end is fits range 
 
 -- ---- the sums so far
 
-pub record SumsSoFar (k at size group groups many first : ℕ) (d other : Dimension) (found : Sums) : Type 0 where
-  pub sums : AreSums k at size group many first d other found
-  -- chunks are no more than the indices that came before
-  pub few : many < groups → found.chunks + at ≤ taken_from (grouped d k) at (group + many)
-  pub few_in_all : found.chunks ≤ size
-  pub small : found.elements ≤ found.chunks * greatest
-
-pub none_so_far : (k at size group groups first : ℕ) (d other : Dimension) (sums : Sums) → sums.largest ≡ 0 → sums.chunks ≡ 0 → sums.elements ≡ 0
-    → SumsSoFar k at size group groups 0 first d other sums
-none_so_far k at size group groups first d other sums largest chunks elements = record {
-  sums = record { largest = largest; chunks = chunks; elements = elements };
-  few = λ some. omega (arith, chunks);
-  few_in_all = omega (arith, chunks);
+pub none_so_far : (k at size group first : ℕ) (d other : Dimension) (sums : Sums) → sums.largest ≡ 0 → sums.chunks ≡ 0 → sums.elements ≡ 0
+    → AreSums k at size group 0 first d other sums
+none_so_far k at size group first d other sums largest chunks elements = record {
+  largest = largest;
+  chunks = chunks;
+  elements = elements;
+  few = λ last same. absurd (omega arith);
   small = omega (arith, chunks, elements);
 }
 
@@ -129,7 +123,7 @@ none_so_far k at size group groups first d other sums largest chunks elements = 
 abbrev pub greatest_of_128 : ℕ
 greatest_of_128 = 340282366920938463463374607431768211455
 
-greatest_more : (f : ℕ → ℕ) (begin many : ℕ)
+pub greatest_more : (f : ℕ → ℕ) (begin many : ℕ)
     → fold max 0 (map f (range_with_len begin (many + 1))) ≡ max (fold max 0 (map f (range_with_len begin many))) (f (begin + many))
 greatest_more f begin many =
     ap (fold max 0) (map-range_with_len_more f begin many (begin + many) refl)
@@ -137,6 +131,15 @@ greatest_more f begin many =
 
 pub sum_more : (f : ℕ → ℕ) (begin many : ℕ) → sum (map f (range_with_len begin (many + 1))) ≡ sum (map f (range_with_len begin many)) + f (begin + many)
 sum_more f begin many = sum_by-map-range_with_len_more (λ n. n) f begin many (begin + many) refl
+
+-- some of the groups take some
+pub some_take : (k at size first_chunk last_chunk group groups before many : ℕ) (d : Dimension)
+    → AreTaking k at size first_chunk last_chunk group groups d → before + many ≤ groups → AreTaking k at size first_chunk last_chunk (group + before) many d
+some_take k at size first_chunk last_chunk group groups before many d taking within = record {
+  over = taking.over;
+  take = λ chunk from below. taking.take chunk (omega arith) (omega (arith, within));
+  groups_fit = omega (arith, taking.groups_fit, within);
+}
 
 pub takes_here : (d : Dimension) (k at size first_chunk last_chunk group groups many : ℕ) → AreTaking k at size first_chunk last_chunk group groups d
     → many < groups → TakesSome (grouped d k) at size (group + many)
@@ -151,39 +154,47 @@ module _ (d other : Dimension) (k at size first_chunk last_chunk group groups fi
   here = group + many
 
   -- a group takes no index that one before it takes
-  follows : many + 1 < groups → min (g.end here) (at + size) ≤ taken_from g at (group + (many + 1))
-  follows next =
-      let after : group + (many + 1) ≡ here + 1 = omega arith in
-      let (has, any) = taking.take (group + (many + 1)) (omega arith) (omega arith) in
-      let (_, gap) = (grouped_chain d k chain some).no_gap here (subst (λ t. IsTrue (g.has_chunk t)) after has) in
+  follows : (last : ℕ) → many ≡ last + 1 → min (g.end (group + last)) (at + size) ≤ taken_from g at here
+  follows last same =
+      let after : here ≡ group + last + 1 = omega (arith, same) in
+      let (has, any) = takes_here d k at size first_chunk last_chunk group groups many taking within in
+      let (_, gap) = (grouped_chain d k chain some).no_gap (group + last) (subst (λ t. IsTrue (g.has_chunk t)) after has) in
       omega (arith, ap g.start after, gap)
 
+  before_here : (found : Sums) → AreSums k at size group many first d other found → found.chunks + taken_from g at group ≤ taken_from g at here
+  before_here found are =
+      by_last (λ n. many ≡ n → found.chunks + taken_from g at group ≤ taken_from g at here)
+      (λ none. let same : here ≡ group = omega (arith, none) in
+      let no_chunks : found.chunks ≡ 0 = are.chunks ∙ ap (λ n. sum (map (of_group met other g first at size) (range_with_len group n))) none in
+      omega (arith, ap g.start same, no_chunks))
+      (λ last same. omega (arith, are.few last same, follows last same)) many refl where
+        by_last : (P : ℕ → Type 0) → P 0 → ((last : ℕ) → P (last + 1)) → (n : ℕ) → P n
+        by_last P none some zero = none
+        by_last P none some (suc n) = let next : n + 1 ≡ suc n = omega arith in subst P next (some n)
+
   pub one_more : (before many_here : ℕ) → IsTaken d k at size here (before, many_here) → (found : Met)
-      → AreMetAlong other (first + before) many_here found → (sums after : Sums) → SumsSoFar k at size group groups many first d other sums
+      → AreMetAlong other (first + before) many_here found → (sums after : Sums) → AreSums k at size group many first d other sums
       → after.largest ≡ max sums.largest many_here → after.chunks ≡ min (sums.chunks + found.chunks) greatest
       → after.elements ≡ min (sums.elements + found.elements) greatest_of_128
-      → SumsSoFar k at size group groups (many + 1) first d other after
+      → AreSums k at size group (many + 1) first d other after
   one_more before many_here is found are sums after so_far largest chunks elements =
       let (_, any) = takes_here d k at size first_chunk last_chunk group groups many taking within in
       let over = taking.over in
       let fits = over.fits in
-      let some_before = so_far.few within in
+      let some_before = before_here sums so_far in
       let chunks_here : found.chunks ≡ of_group met other g first at size here = rw (← is.before, ← is.many) are.chunks in
       let elements_here : found.elements ≡ of_group whole other g first at size here = rw (← is.before, ← is.many) are.elements in
       let few_here = are.few in
       let small_here = are.small in
       let small = so_far.small in
       let chunks_are : after.chunks ≡ sums.chunks + found.chunks = omega (arith, chunks, some_before, few_here, is.many) in
-      let few : after.chunks + at ≤ min (g.end here) (at + size) = omega (arith, chunks_are, some_before, few_here, is.many) in
+      let few : after.chunks + taken_from g at group ≤ min (g.end here) (at + size) = omega (arith, chunks_are, some_before, few_here, is.many) in
       let small_after : sums.elements + found.elements ≤ after.chunks * greatest = omega (arith, chunks_are) in
       let elements_are : after.elements ≡ sums.elements + found.elements = omega (arith, elements, small_after, few) in
       record {
-        sums = record {
-          largest = largest ∙ ap₂ max so_far.sums.largest is.many ∙ sym (greatest_more (of_group indices other g first at size) group many);
-          chunks = chunks_are ∙ ap₂ ◌+◌ so_far.sums.chunks chunks_here ∙ sym (sum_more (of_group met other g first at size) group many);
-          elements = elements_are ∙ ap₂ ◌+◌ so_far.sums.elements elements_here ∙ sym (sum_more (of_group whole other g first at size) group many);
-        };
-        few = λ next. let after_here = follows next in omega (arith, few);
-        few_in_all = omega (arith, few);
+        largest = largest ∙ ap₂ max so_far.largest is.many ∙ sym (greatest_more (of_group indices other g first at size) group many);
+        chunks = chunks_are ∙ ap₂ ◌+◌ so_far.chunks chunks_here ∙ sym (sum_more (of_group met other g first at size) group many);
+        elements = elements_are ∙ ap₂ ◌+◌ so_far.elements elements_here ∙ sym (sum_more (of_group whole other g first at size) group many);
+        few = λ last same. let is_here : group + last ≡ here = omega (arith, same) in omega (arith, few, ap g.end is_here);
         small = omega (arith, elements_are, small_after);
       }

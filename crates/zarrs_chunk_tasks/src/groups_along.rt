@@ -1,10 +1,10 @@
 //! The groups that hold some of a range of indices, and what is counted of them, along one dimension.
-ghost use Rattle.std.specs.Prelude.{◌≡◌, ◌+◌, ◌-◌, ◌<◌, ◌≤◌, IfOk, Some, length};
+ghost use Rattle.std.specs.Prelude.{◌≡◌, ◌+◌, ◌-◌, ◌<◌, ◌≤◌, IfOk, IfSome, Some, length};
 ghost use Rattle.std.specs.Int.NonZero.{non_zero_u64_get};
 ghost use Rattle.zarrs_chunk_axes.specs.Along.{Along};
 ghost use Rattle.zarrs_chunk_base.specs.Greatest.{greatest};
 ghost use Rattle.zarrs_chunk_plan.specs.seen.Sources.{TakesSome};
-ghost use Rattle.zarrs_chunk_tasks.specs.seen.Counts.{AreMetAlong, AreOver, GroupsSum, GroupsTake, IsTaken};
+ghost use Rattle.zarrs_chunk_tasks.specs.seen.Counts.{AreMetAlong, AreOver, GroupsAlike, GroupsSum, GroupsTake, IsTaken, PartSum};
 ghost use Rattle.zarrs_chunk_tasks.specs.seen.Grouped.{grouped};
 
 use crate::group_numbers::{first_chunk, last_chunk};
@@ -50,7 +50,18 @@ pub(crate) struct Sums {
     pub(crate) elements: u128,
 }
 
-/// Adds up what is counted of groups, where the range begins at `first` in the array of another grid.
+/// Groups that are alike: each takes as many indices, and one that comes `period` groups later meets as many chunks, each of `period` elements.
+#[derive(Drop)]
+pub(crate) struct Alike {
+    /// How many they are, behind the first group.
+    pub(crate) many: u64,
+    pub(crate) period: NonZeroU64,
+    /// How many indices each takes.
+    pub(crate) long: u64,
+}
+
+/// Adds up what is counted of groups, where the range begins at `first` in the array of another grid. Between regular dimensions it goes through a few
+/// groups for each element of a chunk of the other grid, however many there are, and else through all of them.
 ///
 /// # Errors
 /// Out of memory.
@@ -62,10 +73,93 @@ pub(crate) fn sums_along<K: ChunkGridTraits, G: ChunkGridTraits>(
 ) -> Result<Sums, AllocError>
     requires groups { Along (GroupsTake groups.now) (K.dimensions groups.now.grid.now)
         groups.now.dimension }
-    requires other { groups.now.dimension < length (G.dimensions other.now) }
+    requires other { Along (λ s. first + groups.now.size ≤ s.array_size) (G.dimensions other.now)
+        groups.now.dimension }
     requires first { first + groups.now.size ≤ greatest }
     ensures { IfOk result (λ sums. Along (λ d. Along (λ s.
         GroupsSum groups.now groups.now.groups first d s sums) (G.dimensions other.now)
+        groups.now.dimension) (K.dimensions groups.now.grid.now) groups.now.dimension) }
+{
+    let Some(alike) = alike_groups(groups, other, first) else {
+        return sums_one_by_one(alloc, groups, 0, groups.groups, other, first);
+    };
+    let period = alike.period;
+    let left = groups.groups - (alike.many + 1);
+    let head = sums_one_by_one(alloc, groups, 0, 1, other, first)?;
+    let once = sums_one_by_one(alloc, groups, 1, period.get(), other, first)?;
+    let rest = sums_one_by_one(alloc, groups, 1, alike.many % period, other, first)?;
+    let tail = sums_one_by_one(alloc, groups, alike.many + 1, left, other, first)?;
+    // No sum and no product is cut off, since groups take no index twice.
+    let chunks = once
+        .chunks
+        .saturating_mul(alike.many / period)
+        .saturating_add(rest.chunks);
+    Ok(Sums {
+        largest: head.largest.max(alike.long).max(tail.largest),
+        chunks: head
+            .chunks
+            .saturating_add(chunks)
+            .saturating_add(tail.chunks),
+        elements: head
+            .elements
+            .saturating_add(u128::from(chunks).saturating_mul(u128::from(period.get())))
+            .saturating_add(tail.elements),
+    })
+}
+
+/// Finds groups behind the first one that are alike. `None` if a dimension isn't regular, or if these are too few to be worth it.
+fn alike_groups<K: ChunkGridTraits, G: ChunkGridTraits>(
+    groups: &GroupsAlong<K>,
+    other: &G,
+    first: u64,
+) -> Option<Alike>
+    requires groups { Along (GroupsTake groups.now) (K.dimensions groups.now.grid.now)
+        groups.now.dimension }
+    requires other { Along (λ s. first + groups.now.size ≤ s.array_size) (G.dimensions other.now)
+        groups.now.dimension }
+    requires first { first + groups.now.size ≤ greatest }
+    ensures alike { IfSome result (λ alike. Along (λ d. Along (λ s. GroupsAlike groups.now first d s
+        alike) (G.dimensions other.now) groups.now.dimension)
+        (K.dimensions groups.now.grid.now) groups.now.dimension) }
+    ensures some { IfSome result (λ alike. non_zero_u64_get alike.period < alike.many) }
+    ensures fewer { IfSome result (λ alike. alike.many + 1 ≤ groups.now.groups) }
+{
+    let edge = groups.grid.regular_along(groups.dimension)?;
+    let period = other.regular_along(groups.dimension)?;
+    // The chunk of the other grid that holds the last index may reach over the array, or end with it. All chunks before it have their edge.
+    let last = (first + (groups.size - 1)) / period;
+    let end = groups
+        .at
+        .saturating_add((last * period.get()).saturating_sub(first));
+    let many = (end / edge / groups.each)
+        .saturating_sub(groups.group.saturating_add(1))
+        .min(groups.groups.saturating_sub(1));
+    if many / 2 <= period.get() {
+        return None;
+    }
+    let long = edge.get().saturating_mul(groups.each.get());
+    Some(Alike { many, period, long })
+}
+
+/// Goes through groups one after another, from the one that comes so many after the first, and adds up what is counted of them.
+///
+/// # Errors
+/// Out of memory.
+fn sums_one_by_one<K: ChunkGridTraits, G: ChunkGridTraits>(
+    alloc: Global,
+    groups: &GroupsAlong<K>,
+    before: u64,
+    many: u64,
+    other: &G,
+    first: u64,
+) -> Result<Sums, AllocError>
+    requires groups { Along (GroupsTake groups.now) (K.dimensions groups.now.grid.now)
+        groups.now.dimension }
+    requires other { groups.now.dimension < length (G.dimensions other.now) }
+    requires first { first + groups.now.size ≤ greatest }
+    requires many { before + many ≤ groups.now.groups }
+    ensures { IfOk result (λ sums. Along (λ d. Along (λ s.
+        PartSum groups.now before many first d s sums) (G.dimensions other.now)
         groups.now.dimension) (K.dimensions groups.now.grid.now) groups.now.dimension) }
 {
     let mut sums = Sums {
@@ -73,9 +167,9 @@ pub(crate) fn sums_along<K: ChunkGridTraits, G: ChunkGridTraits>(
         chunks: 0,
         elements: 0,
     };
-    for steps in 0..groups.groups {
+    for steps in 0..many {
         // No number is cut off, since all groups are of the range, which lies in both arrays.
-        let group = groups.group.saturating_add(steps);
+        let group = groups.group.saturating_add(before).saturating_add(steps);
         let (before, size) = range_of(alloc, groups, group)?;
         let from = first.saturating_add(before);
         let met = met_along(alloc, other, groups.dimension, from, size)?;

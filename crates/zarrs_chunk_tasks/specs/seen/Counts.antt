@@ -1,5 +1,5 @@
 -- How the tasks of a copy are counted, along each dimension by itself.
-use Rattle.std.specs.Prelude.{◌≡◌, ℕ, ◌+◌, ◌-◌, ◌*◌, ◌<◌, ◌≤◌, List, [], ◌∷◌, fold, length, map, max, slice_index_or}
+use Rattle.std.specs.Prelude.{◌≡◌, ℕ, ◌+◌, ◌-◌, ◌*◌, ◌<◌, ◌≤◌, List, [], ◌∷◌, fold, length, map, max, min, slice_index_or}
 use Rattle.std.specs.Int.NonZero.{non_zero_u64_get}
 use Rattle.std.specs.List.{AllByRecursion, range_with_len, sum}
 use Rattle.std.specs.declared.num.NonZeroU64.{NonZeroU64}
@@ -14,6 +14,7 @@ use Rattle.zarrs_chunk_plan.specs.seen.Sources.{RangeTakes, home, met, met_by, t
 use Rattle.zarrs_chunk_tasks.specs.Counts.{AreNone, in_all}
 use Rattle.zarrs_chunk_tasks.specs.declared.counts.CountsAlong.{CountsAlong}
 use Rattle.zarrs_chunk_tasks.specs.declared.counts.Grouped.{Grouped}
+use Rattle.zarrs_chunk_tasks.specs.declared.groups_along.Alike.{Alike}
 use Rattle.zarrs_chunk_tasks.specs.declared.groups_along.GroupsAlong.{GroupsAlong}
 use Rattle.zarrs_chunk_tasks.specs.declared.groups_along.Met.{Met}
 use Rattle.zarrs_chunk_tasks.specs.declared.groups_along.Sums.{Sums}
@@ -56,6 +57,7 @@ pub record AreMetAlong (d : Dimension) (first size : ℕ) (found : Met) : Type 0
 pub record AreOver (d : Dimension) (at size first last : ℕ) : Type 0 where
   pub some : 0 < size
   pub fits : at + size ≤ greatest
+  pub within : at + size ≤ d.array_size
   pub low : Holds d first at
   pub high : Holds d last (at + (size - 1))
 
@@ -70,11 +72,26 @@ pub record IsTaken (d : Dimension) (k at size group : ℕ) (range : ℕ × ℕ) 
   pub before : range.0 ≡ taken_from (grouped d k) at group - at
   pub many : range.1 ≡ taken (grouped d k) at size group
 
--- the sums of what is counted of neighbouring groups, in the range from `first` on of another dimension
+-- the sums of what is counted of neighbouring groups, in the range from `first` on of another dimension: they take no index twice
 pub record AreSums (k at size group many first : ℕ) (d other : Dimension) (sums : Sums) : Type 0 where
   pub largest : sums.largest ≡ fold max 0 (of_groups indices other (grouped d k) first at size group many)
   pub chunks : sums.chunks ≡ sum (of_groups met other (grouped d k) first at size group many)
   pub elements : sums.elements ≡ sum (of_groups whole other (grouped d k) first at size group many)
+  pub few : (last : ℕ) → many ≡ last + 1
+      → sums.chunks + taken_from (grouped d k) at group ≤ min ((grouped d k).end (group + last)) (at + size)
+  pub small : sums.elements ≤ sums.chunks * greatest
+
+-- Neighbouring groups that are alike. Each takes as many indices. One that comes `period` groups later meets as many chunks of another dimension, each of
+-- which has `period` elements.
+pub record AreAlike (k at size group first : ℕ) (d other : Dimension) (many period long : ℕ) : Type 0 where
+  pub take : (j : ℕ) → j < many → taken (grouped d k) at size (group + j) ≡ long
+  pub repeat : (j : ℕ) → j + period < many
+      → of_group met other (grouped d k) first at size (group + (j + period)) ≡ of_group met other (grouped d k) first at size (group + j)
+  pub whole : (j : ℕ) → j < many
+      → of_group whole other (grouped d k) first at size (group + j) ≡ of_group met other (grouped d k) first at size (group + j) * period
+  pub few : (j : ℕ) → j < many → of_group met other (grouped d k) first at size (group + j) ≤ long
+  pub reach : (last : ℕ) → many ≡ last + 1
+      → taken_from (grouped d k) at group + many * long ≤ min ((grouped d k).end (group + last)) (at + size)
 
 module _ {K : Type 0} where
   abbrev pub GroupsTake : GroupsAlong K → Dimension → Type 0
@@ -83,6 +100,15 @@ module _ {K : Type 0} where
 
   abbrev pub GroupsSum : GroupsAlong K → (many first : ℕ) → (d other : Dimension) → Sums → Type 0
   GroupsSum groups many = AreSums (non_zero_u64_get groups.each) groups.at groups.size groups.group many
+
+  -- of the groups that come so many after the first
+  abbrev pub PartSum : GroupsAlong K → (before many first : ℕ) → (d other : Dimension) → Sums → Type 0
+  PartSum groups before many = AreSums (non_zero_u64_get groups.each) groups.at groups.size (groups.group + before) many
+
+  -- the groups behind the first one are alike
+  abbrev pub GroupsAlike : GroupsAlong K → (first : ℕ) → (d other : Dimension) → Alike → Type 0
+  GroupsAlike groups first d other alike =
+      AreAlike (non_zero_u64_get groups.each) groups.at groups.size (groups.group + 1) first d other alike.many (non_zero_u64_get alike.period) alike.long
 
 -- ---- all dimensions
 
@@ -118,6 +144,10 @@ module _ {K : Type 0} where
     pub long : AreLong source target (dimensions grouped.grid.now) grouped.each.now grouped.elements.now grouped.groups.now first at
     pub cover_long : length grouped.cover.now.start ≡ length (dimensions grouped.grid.now)
     pub last_long : length grouped.last.now ≡ length (dimensions grouped.grid.now)
+    pub in_source : (k : ℕ) → k < length (dimensions grouped.grid.now)
+        → Along (λ s. slice_index_or first k 0 + slice_index_or grouped.elements.now.shape k 0 ≤ s.array_size) source k
+    pub in_target : (k : ℕ) → k < length (dimensions grouped.grid.now)
+        → Along (λ t. slice_index_or at k 0 + slice_index_or grouped.elements.now.shape k 0 ≤ t.array_size) target k
     pub first_fits : (k : ℕ) → k < length (dimensions grouped.grid.now)
         → slice_index_or first k 0 + slice_index_or grouped.elements.now.shape k 0 ≤ greatest
     pub at_fits : (k : ℕ) → k < length (dimensions grouped.grid.now)

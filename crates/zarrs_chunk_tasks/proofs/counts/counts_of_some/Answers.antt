@@ -32,12 +32,15 @@ pub bounds-copied-dimension-in-loop-dimension : goal.bounds-copied-dimension-in-
 bounds-copied-dimension-in-loop-dimension g c = omega (arith, c.loop-dimension-test.true, c.requires.long.each_long, c.requires.long.at_long)
 
 pub sums_along-requires-clause-other : goal.sums_along-requires-clause-other
-sums_along-requires-clause-other g c = omega (arith, c.loop-dimension-test.true, c.requires.long.each_long, c.requires.long.source_long)
+sums_along-requires-clause-other g c =
+    rw c.shape.ensures.value
+    (c.requires.in_source c.loop-dimension.dimension (omega (arith, c.loop-dimension-test.true, c.requires.long.each_long)))
 
 pub sums_along-requires-in-loop-dimension-clause-other :
     goal.sums_along-requires-in-loop-dimension-clause-other
 sums_along-requires-in-loop-dimension-clause-other g c =
-    omega (arith, c.loop-dimension-test.true, c.requires.long.each_long, c.requires.long.target_long)
+    rw c.shape.ensures.value
+    (c.requires.in_target c.loop-dimension.dimension (omega (arith, c.loop-dimension-test.true, c.requires.long.each_long)))
 
 pub sums_along-requires-clause-groups : goal.sums_along-requires-clause-groups
 sums_along-requires-clause-groups g c =

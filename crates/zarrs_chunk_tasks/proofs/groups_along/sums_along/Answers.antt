@@ -1,86 +1,49 @@
-use Rattle.std.proofs.Common.{◌≡◌, ◌+◌, arith, refl, subst}
+use Rattle.std.proofs.Common.{◌≡◌, ◌+◌, arith}
 use Rattle.std.specs.Int.NonZero.{non_zero_u64_get}
-use Rattle.zarrs_chunk_plan.specs.seen.Sources.{TakesSome}
-use Rattle.zarrs_chunk_tasks.specs.seen.Counts.{AreMetAlong, IsTaken}
-use Rattle.zarrs_chunk_tasks.specs.seen.Grouped.{grouped}
-use Rattle.zarrs_chunk_tasks.proofs.SumsAlong.{none_so_far, one, one_more, one_of, takes_here}
+use Rattle.zarrs_chunk_tasks.proofs.RegularSums.{sums_are}
+use Rattle.zarrs_chunk_tasks.proofs.SumsAlong.{along_within, one_of}
 use Rattle.zarrs_chunk_tasks.proofs.groups_along.sums_along.Goals as goal
 
-pub loop-steps-init : goal.loop-steps-init
-loop-steps-init g c =
-    let groups = c.args.groups.now in
-    let it = one_of _ _ groups.dimension (g.met.K.ChunkGridTraits.chained groups.grid.now) c.requires.groups in
-    let other = one _ groups.dimension (g.met.G.ChunkGridTraits.chained c.args.other.now) c.requires.other in
-    it.back _ (other.back _ (none_so_far (non_zero_u64_get groups.each) groups.at groups.size groups.group groups.groups c.args.first it.d other.d _ refl refl refl))
+pub sums_one_by_one-requires-clause-other : goal.sums_one_by_one-requires-clause-other
+sums_one_by_one-requires-clause-other g c = along_within _ _ _ c.requires.other
 
-pub range_of-requires-clause-over : goal.range_of-requires-clause-over
-range_of-requires-clause-over g c =
-    let groups = c.args.groups.now in
-    let it = one_of _ _ groups.dimension (g.met.K.ChunkGridTraits.chained groups.grid.now) c.requires.groups in
-    let taking = it.at _ c.requires.groups in
-    it.back _ taking.over
+pub sums_one_by_one-requires-2-clause-other : goal.sums_one_by_one-requires-2-clause-other
+sums_one_by_one-requires-2-clause-other g c = along_within _ _ _ c.requires.other
 
-pub range_of-requires-clause-takes : goal.range_of-requires-clause-takes
-range_of-requires-clause-takes g c =
-    let groups = c.args.groups.now in
-    let it = one_of _ _ groups.dimension (g.met.K.ChunkGridTraits.chained groups.grid.now) c.requires.groups in
-    let taking = it.at _ c.requires.groups in
-    let group_is : groups.group + c.loop-steps.steps ≡ c.saturating_add-group.result =
-    omega (arith, c.saturating_add-group.ensures, taking.groups_fit, c.loop-steps-test.true) in
-    it.back _
-    (subst (TakesSome (grouped it.d (non_zero_u64_get groups.each)) groups.at groups.size) group_is
-    (takes_here it.d (non_zero_u64_get groups.each) groups.at groups.size groups.first groups.last groups.group groups.groups c.loop-steps.steps taking
-    c.loop-steps-test.true))
+pub sums_one_by_one-requires-3-clause-other : goal.sums_one_by_one-requires-3-clause-other
+sums_one_by_one-requires-3-clause-other g c = along_within _ _ _ c.requires.other
 
-pub met_along-requires-clause-some : goal.met_along-requires-clause-some
-met_along-requires-clause-some g c =
-    let groups = c.args.groups.now in
-    let it = one_of _ _ groups.dimension (g.met.K.ChunkGridTraits.chained groups.grid.now) c.requires.groups in
-    let taking = it.at _ c.requires.groups in
-    let is = it.at _ (c.in_ok-before.ensures {u = tt}) in
-    let (_, takes) = taking.take c.saturating_add-group.result (omega (arith, c.saturating_add-group.ensures, taking.groups_fit, c.loop-steps-test.true))
-    (omega (arith, c.saturating_add-group.ensures, taking.groups_fit, c.loop-steps-test.true)) in
-    omega (arith, is.many, takes)
+pub sums_one_by_one-requires-4-clause-other : goal.sums_one_by_one-requires-4-clause-other
+sums_one_by_one-requires-4-clause-other g c = along_within _ _ _ c.requires.other
 
-pub met_along-requires-clause-fits : goal.met_along-requires-clause-fits
-met_along-requires-clause-fits g c =
-    let groups = c.args.groups.now in
-    let it = one_of _ _ groups.dimension (g.met.K.ChunkGridTraits.chained groups.grid.now) c.requires.groups in
-    let taking = it.at _ c.requires.groups in
-    let is = it.at _ (c.in_ok-before.ensures {u = tt}) in
-    let (_, takes) = taking.take c.saturating_add-group.result (omega (arith, c.saturating_add-group.ensures, taking.groups_fit, c.loop-steps-test.true))
-    (omega (arith, c.saturating_add-group.ensures, taking.groups_fit, c.loop-steps-test.true)) in
-    omega (arith, is.before, is.many, takes, c.saturating_add-from.ensures, c.requires.first)
+pub sums_one_by_one-requires-5-clause-other : goal.sums_one_by_one-requires-5-clause-other
+sums_one_by_one-requires-5-clause-other g c = along_within _ _ _ c.requires.other
 
-pub loop-steps-preserved : goal.loop-steps-preserved
-loop-steps-preserved g c =
-    let groups = c.args.groups.now in
-    let k = non_zero_u64_get groups.each in
-    let it = one_of _ _ groups.dimension (g.met.K.ChunkGridTraits.chained groups.grid.now) c.requires.groups in
-    let other = one _ groups.dimension (g.met.G.ChunkGridTraits.chained c.args.other.now) c.requires.other in
-    let taking = it.at _ c.requires.groups in
-    let so_far = other.at _ (it.at _ c.loop-steps.invariant) in
-    let is = it.at _ (c.in_ok-before.ensures {u = tt}) in
-    let group_is : c.saturating_add-group.result ≡ groups.group + c.loop-steps.steps =
-    omega (arith, c.saturating_add-group.ensures, taking.groups_fit, c.loop-steps-test.true) in
-    let (_, takes) = takes_here it.d k groups.at groups.size groups.first groups.last groups.group groups.groups c.loop-steps.steps taking
-    c.loop-steps-test.true in
-    let is_here = subst (λ t. IsTaken it.d k groups.at groups.size t (c.in_ok-before.before, c.in_ok-before.size)) group_is is in
-    let from : c.saturating_add-from.result ≡ c.args.first + c.in_ok-before.before =
-    omega (arith, is_here.before, is_here.many, takes, c.saturating_add-from.ensures, c.requires.first) in
-    let met = other.at _ (c.in_ok-met.ensures {u = tt}) in
-    it.back _
-    (other.back _
-    (one_more it.d other.d k groups.at groups.size groups.first groups.last groups.group groups.groups c.args.first c.loop-steps.steps it.chain groups.each.ok
-    taking c.loop-steps-test.true c.in_ok-before.before c.in_ok-before.size is_here c.in_ok-met.met
-    (subst (λ n. AreMetAlong other.d n c.in_ok-before.size c.in_ok-met.met) from met) c.loop-steps.sums _ so_far (omega (arith, c.max.ensures))
-    c.saturating_add.ensures c.saturating_add-in-loop-steps.ensures))
+pub returns-in_default : goal.returns-in_default
+returns-in_default g c = let same : c.args.groups.now.group + 0 ≡ c.args.groups.now.group = omega arith in rw same at c.sums_one_by_one.ensures
 
 pub returns : goal.returns
 returns g c =
     let groups = c.args.groups.now in
     let it = one_of _ _ groups.dimension (g.met.K.ChunkGridTraits.chained groups.grid.now) c.requires.groups in
-    let other = one _ groups.dimension (g.met.G.ChunkGridTraits.chained c.args.other.now) c.requires.other in
-    let so_far = other.at _ (it.at _ c.loop-steps.invariant) in
-    let ended : c.loop-steps.steps ≡ groups.groups = omega (arith, c.loop-steps-test.false, c.loop-steps.auto.steps-end) in
-    it.back _ (other.back _ (rw ended at so_far.sums))
+    let other = one_of _ _ groups.dimension (g.met.G.ChunkGridTraits.chained c.args.other.now) c.requires.other in
+    let taking = it.at _ c.requires.groups in
+    let found = c.in-Some.ensures {u = tt} in
+    let alike = other.at _ (it.at _ found.alike) in
+    let head = other.at _ (it.at _ (c.in_ok-head.ensures {u = tt})) in
+    let once = other.at _ (it.at _ (c.in_ok-once.ensures {u = tt})) in
+    let rest = other.at _ (it.at _ (c.in_ok-rest.ensures {u = tt})) in
+    let tail = other.at _ (it.at _ (c.in_ok-tail.ensures {u = tt})) in
+    let here : groups.group + 0 ≡ groups.group = omega arith in
+    let period = non_zero_u64_get c.in-Some.alike.period in
+    let one_is : c.get.result ≡ period = c.get.ensures.value in
+    let chunks = rw (c.saturating_mul.ensures, c.div.ensures) at c.saturating_add-chunks.ensures in
+    let elements = rw (c.saturating_add-3.ensures, c.saturating_mul-2.ensures, c.from.ensures, c.from-2.ensures, c.get-2.ensures.value) at c.saturating_add-4.ensures
+    in
+    it.back _
+    (other.back _
+    (sums_are it.d other.d (non_zero_u64_get groups.each) groups.at groups.size groups.first groups.last groups.group groups.groups c.args.first
+    c.in-Some.alike.many period c.in-Some.alike.long it.chain groups.each.ok taking (omega (arith, found.some)) found.fewer c.in-Some.alike.period.ok
+    (omega (arith, c.get.type_inv, one_is)) alike c.in_ok-head.head c.in_ok-once.once c.in_ok-rest.rest c.in_ok-tail.tail (rw here at head) (rw one_is at once)
+    (rw c.rem.ensures at rest) tail _ c.saturating_add-chunks.result chunks (omega (arith, c.max.ensures, c.max-2.ensures))
+    (omega (arith, c.saturating_add.ensures, c.saturating_add-2.ensures)) elements))
