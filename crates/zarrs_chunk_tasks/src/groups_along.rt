@@ -53,7 +53,7 @@ pub(crate) struct Sums {
 /// Groups that are alike: each takes as many indices, and one that comes `period` groups later meets as many chunks, each of `period` elements.
 #[derive(Drop)]
 pub(crate) struct Alike {
-    /// How many they are, behind the first group.
+    /// How many they are, after the first group.
     pub(crate) many: u64,
     pub(crate) period: NonZeroU64,
     /// How many indices each takes.
@@ -107,7 +107,7 @@ pub(crate) fn sums_along<K: ChunkGridTraits, G: ChunkGridTraits>(
     })
 }
 
-/// Finds groups behind the first one that are alike. `None` if a dimension isn't regular, or if these are too few to be worth it.
+/// Finds groups after the first one that are alike. `None` if a dimension isn't regular, or if these are too few to be worth it.
 fn alike_groups<K: ChunkGridTraits, G: ChunkGridTraits>(
     groups: &GroupsAlong<K>,
     other: &G,
@@ -141,7 +141,7 @@ fn alike_groups<K: ChunkGridTraits, G: ChunkGridTraits>(
     Some(Alike { many, period, long })
 }
 
-/// Goes through groups one after another, from the one that comes so many after the first, and adds up what is counted of them.
+/// Goes through `many` groups one after another, the first of which comes `before` groups after the first of all, and adds up what is counted of them.
 ///
 /// # Errors
 /// Out of memory.

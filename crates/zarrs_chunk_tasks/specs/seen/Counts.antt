@@ -101,11 +101,11 @@ module _ {K : Type 0} where
   abbrev pub GroupsSum : GroupsAlong K → (many first : ℕ) → (d other : Dimension) → Sums → Type 0
   GroupsSum groups many = AreSums (non_zero_u64_get groups.each) groups.at groups.size groups.group many
 
-  -- of the groups that come so many after the first
+  -- of some of the groups, a number of groups after the first
   abbrev pub PartSum : GroupsAlong K → (before many first : ℕ) → (d other : Dimension) → Sums → Type 0
   PartSum groups before many = AreSums (non_zero_u64_get groups.each) groups.at groups.size (groups.group + before) many
 
-  -- the groups behind the first one are alike
+  -- the groups after the first one are alike
   abbrev pub GroupsAlike : GroupsAlong K → (first : ℕ) → (d other : Dimension) → Alike → Type 0
   GroupsAlike groups first d other alike =
       AreAlike (non_zero_u64_get groups.each) groups.at groups.size (groups.group + 1) first d other alike.many (non_zero_u64_get alike.period) alike.long

@@ -3,7 +3,7 @@ use Rattle.std.specs.Int.{div_ceil}
 use Rattle.std.specs.Prelude.{ℕ, zero, suc, ◌-◌, ◌*◌, List, [], ◌∷◌, cond}
 use Rattle.zarrs_chunk_base.specs.Dimension.{Dimension}
 
--- the last one that there is of a chunk and a number of chunks behind it
+-- the last one that there is of a chunk and a number of chunks after it
 abbrev pub last_of : Dimension → (behind chunk : ℕ) → ℕ
 last_of d zero chunk = chunk
 last_of d (suc behind) chunk = cond (d.has_chunk (suc chunk)) (last_of d behind (suc chunk)) chunk
