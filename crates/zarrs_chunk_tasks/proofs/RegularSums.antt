@@ -1,15 +1,17 @@
 -- Groups of the chunks of a regular dimension are alike, as far as the chunks of another regular dimension are.
-use Rattle.std.proofs.Common.{◌≡◌, ◌∙◌, ℕ, zero, suc, ◌+◌, ◌-◌, ◌*◌, ◌/◌, ◌%◌, ◌<◌, ◌≤◌, IsTrue, fold, map, max, min, refl, ap, ap₂, subst, sym, arith}
+use Rattle.std.proofs.Common.{◌≡◌, ◌∙◌, ℕ, zero, suc, ◌+◌, ◌-◌, ◌*◌, ◌/◌, ◌%◌, ◌<◌, ◌≤◌, IsTrue, List, map, max, min, refl, ap, ap₂, subst, sym, arith, ◌++◌, ◌∷◌}
 use Rattle.std.proofs.Common.{⊎_elim}
 use Rattle.std.proofs.Math.Nat.{add-mul, add-mul-div_left, div-add-mod, div-div-eq-div-mul, div-mul-le_self, mul-le-mul_right, mul_comm, suc-mul}
 use Rattle.std.proofs.lemmas.Bool.{cases_lt}
 use Rattle.std.proofs.lemmas.Nat.{div-mul-add}
+use Rattle.std.proofs.lemmas.List.Sums.{fold-append, sum_by-append}
 use Rattle.std.specs.List.{range_with_len, sum}
 use Rattle.zarrs_chunk_base.specs.Dimension.{Dimension, Holds, IsChain}
 use Rattle.zarrs_chunk_base.specs.Greatest.{greatest}
 use Rattle.zarrs_chunk_axes.specs.Along.{IsRegular}
 use Rattle.zarrs_chunks.proofs.Chains.{no_later}
 use Rattle.zarrs_chunk_plan.proofs.MetChunks.{met_at_most, met_is}
+use Rattle.zarrs_chunk_plan.proofs.Products.{greatest_from, greatest_of}
 use Rattle.zarrs_chunk_plan.specs.seen.Sources.{TakesSome, met, taken, taken_from}
 use Rattle.zarrs_chunk_tasks.specs.declared.groups_along.Sums.{Sums}
 use Rattle.zarrs_chunk_tasks.specs.seen.Counts.{AreAlike, AreSums, AreTaking, indices, of_group, of_groups, whole}
@@ -179,29 +181,29 @@ module _ (d other : Dimension) (k b a at size group first last many : ℕ) (chai
 
 -- ---- sums of parts
 
--- of a range cut in two
+-- a range cut in two
+parts : (f : ℕ → ℕ) (begin one other : ℕ)
+    → map f (range_with_len begin (one + other)) ≡ map f (range_with_len begin one) ++ map f (range_with_len (begin + one) other)
+parts f begin zero other =
+    let same : 0 + other ≡ other = omega arith in
+    let place : begin ≡ begin + 0 = omega arith in
+    ap₂ (λ a n. map f (range_with_len a n)) place same
+parts f begin (suc one) other =
+    let more : suc one + other ≡ suc (one + other) = omega arith in
+    let place : begin + 1 + one ≡ begin + suc one = omega arith in
+    ap (λ n. map f (range_with_len begin n)) more
+    ∙ ap (λ xs. f begin ∷ xs) (parts f (begin + 1) one other ∙ ap (λ a. map f (range_with_len (begin + 1) one) ++ map f (range_with_len a other)) place)
+
 sum_parts : (f : ℕ → ℕ) (begin one other : ℕ)
     → sum (map f (range_with_len begin (one + other))) ≡ sum (map f (range_with_len begin one)) + sum (map f (range_with_len (begin + one) other))
-sum_parts f begin one zero = let same : one + 0 ≡ one = omega arith in ap (λ n. sum (map f (range_with_len begin n))) same ∙ omega arith
-sum_parts f begin one (suc other) =
-    let same : one + suc other ≡ one + other + 1 = omega arith in
-    let next : other + 1 ≡ suc other = omega arith in
-    let place : begin + (one + other) ≡ begin + one + other = omega arith in
-    let whole = ap (λ n. sum (map f (range_with_len begin n))) same ∙ sum_more f begin (one + other) in
-    let part = ap (λ n. sum (map f (range_with_len (begin + one) n))) (sym next) ∙ sum_more f (begin + one) other in
-    omega (arith, whole, part, sum_parts f begin one other, ap f place)
+sum_parts f begin one other = ap sum (parts f begin one other) ∙ sum_by-append (λ n. n) (map f (range_with_len begin one)) _
 
 greatest_parts : (f : ℕ → ℕ) (begin one other : ℕ)
-    → fold max 0 (map f (range_with_len begin (one + other)))
-    ≡ max (fold max 0 (map f (range_with_len begin one))) (fold max 0 (map f (range_with_len (begin + one) other)))
-greatest_parts f begin one zero = let same : one + 0 ≡ one = omega arith in ap (λ n. fold max 0 (map f (range_with_len begin n))) same ∙ omega arith
-greatest_parts f begin one (suc other) =
-    let same : one + suc other ≡ one + other + 1 = omega arith in
-    let next : other + 1 ≡ suc other = omega arith in
-    let place : begin + (one + other) ≡ begin + one + other = omega arith in
-    let whole = ap (λ n. fold max 0 (map f (range_with_len begin n))) same ∙ greatest_more f begin (one + other) in
-    let part = ap (λ n. fold max 0 (map f (range_with_len (begin + one) n))) (sym next) ∙ greatest_more f (begin + one) other in
-    omega (arith, whole, part, greatest_parts f begin one other, ap f place)
+    → greatest_of (map f (range_with_len begin (one + other)))
+    ≡ max (greatest_of (map f (range_with_len begin one))) (greatest_of (map f (range_with_len (begin + one) other)))
+greatest_parts f begin one other =
+    ap greatest_of (parts f begin one other) ∙ fold-append max 0 (map f (range_with_len begin one)) (map f (range_with_len (begin + one) other))
+    ∙ greatest_from (greatest_of (map f (range_with_len begin one))) (map f (range_with_len (begin + one) other))
 
 -- what holds of each number of a range, added up
 by_one : (P : ℕ → Type 0) → P 0 → ((n : ℕ) → P n → P (n + 1)) → (n : ℕ) → P n
@@ -227,11 +229,11 @@ sum_at_most f a n most =
     by_one (λ n. ((j : ℕ) → j < n → f (a + j) ≤ most) → sum (map f (range_with_len a n)) ≤ n * most) (λ few. omega arith)
     (λ n rest few. omega (arith, sum_more f a n, rest (λ j less. few j (omega arith)), few n (omega arith), next_group n most)) n
 
-greatest_is : (f : ℕ → ℕ) (a n long : ℕ) → 0 < n → ((j : ℕ) → j < n → f (a + j) ≡ long) → fold max 0 (map f (range_with_len a n)) ≡ long
+greatest_is : (f : ℕ → ℕ) (a n long : ℕ) → 0 < n → ((j : ℕ) → j < n → f (a + j) ≡ long) → greatest_of (map f (range_with_len a n)) ≡ long
 greatest_is f a n long some same =
     let (most, least) = by_one
     (λ n. ((j : ℕ) → j < n → f (a + j) ≡ long)
-    → (fold max 0 (map f (range_with_len a n)) ≤ long) × (0 < n → long ≤ fold max 0 (map f (range_with_len a n))))
+    → (greatest_of (map f (range_with_len a n)) ≤ long) × (0 < n → long ≤ greatest_of (map f (range_with_len a n))))
     (λ same. (omega arith, λ some. absurd (omega arith)))
     (λ n rest same.
     let (most, _) = rest (λ j less. same j (omega arith)) in
@@ -292,23 +294,20 @@ module _ (d other : Dimension) (k at size first_chunk last_chunk group groups fi
         sum_times (of_group whole other grp first at size) (of_group met other grp first at size) (group + 1) many period alike.whole
         ∙ ap (λ n. n * period) alike_chunks
 
-    in_three : (f : ℕ → ℕ) → sum (map f (range_with_len group groups))
-        ≡ sum (map f (range_with_len group 1)) + (sum (map f (range_with_len (group + 1) many)) + sum (map f (range_with_len (group + (many + 1)) left)))
-    in_three f =
-        let place : group + 1 + many ≡ group + (many + 1) = omega arith in
-        ap (λ n. sum (map f (range_with_len group n))) parts_are ∙ sum_parts f group 1 (many + left)
-        ∙ ap (λ n. sum (map f (range_with_len group 1)) + n)
-        (sum_parts f (group + 1) many left ∙ ap (λ t. sum (map f (range_with_len (group + 1) many)) + sum (map f (range_with_len t left))) place)
+    abbrev of_parts : (op : ℕ → ℕ → ℕ) → (r : List ℕ → ℕ) → (f : ℕ → ℕ) → ℕ
+    of_parts op r f =
+        op (r (map f (range_with_len group 1)))
+        (op (r (map f (range_with_len (group + 1) many))) (r (map f (range_with_len (group + (many + 1)) left))))
 
-    greatest_in_three : (f : ℕ → ℕ) → fold max 0 (map f (range_with_len group groups))
-        ≡ max (fold max 0 (map f (range_with_len group 1)))
-        (max (fold max 0 (map f (range_with_len (group + 1) many))) (fold max 0 (map f (range_with_len (group + (many + 1)) left))))
-    greatest_in_three f =
+    in_three : (op : ℕ → ℕ → ℕ) (r : List ℕ → ℕ)
+        → ((f : ℕ → ℕ) (begin one other : ℕ)
+        → r (map f (range_with_len begin (one + other))) ≡ op (r (map f (range_with_len begin one))) (r (map f (range_with_len (begin + one) other))))
+        → (f : ℕ → ℕ) → r (map f (range_with_len group groups)) ≡ of_parts op r f
+    in_three op r cut f =
         let place : group + 1 + many ≡ group + (many + 1) = omega arith in
-        ap (λ n. fold max 0 (map f (range_with_len group n))) parts_are ∙ greatest_parts f group 1 (many + left)
-        ∙ ap (max (fold max 0 (map f (range_with_len group 1))))
-        (greatest_parts f (group + 1) many left
-        ∙ ap (λ t. max (fold max 0 (map f (range_with_len (group + 1) many))) (fold max 0 (map f (range_with_len t left)))) place)
+        ap (λ n. r (map f (range_with_len group n))) parts_are ∙ cut f group 1 (many + left)
+        ∙ ap (op (r (map f (range_with_len group 1))))
+        (cut f (group + 1) many left ∙ ap (λ t. op (r (map f (range_with_len (group + 1) many))) (r (map f (range_with_len t left)))) place)
 
     -- none takes an index that another takes
     alike_few : all_alike ≤ many * long
@@ -377,11 +376,11 @@ module _ (d other : Dimension) (k at size first_chunk last_chunk group groups fi
                 arith,
                 heads.largest,
                 tails.largest,
-                greatest_in_three (of_group indices other grp first at size),
+                in_three max greatest_of greatest_parts (of_group indices other grp first at size),
                 greatest_is (of_group indices other grp first at size) (group + 1) many long some_alike alike.take,
               );
-          chunks = chunks_are ∙ omega (arith, heads.chunks, tails.chunks, alike_chunks, in_three (of_group met other grp first at size));
-          elements = elements_are ∙ omega (arith, heads.elements, tails.elements, alike_elements, in_three (of_group whole other grp first at size));
+          chunks = chunks_are ∙ omega (arith, heads.chunks, tails.chunks, alike_chunks, in_three ◌+◌ sum sum_parts (of_group met other grp first at size));
+          elements = elements_are ∙ omega (arith, heads.elements, tails.elements, alike_elements, in_three ◌+◌ sum sum_parts (of_group whole other grp first at size));
           few = λ last same. omega (arith, chunks_are, few_in_all last same);
           small = omega (arith, chunks_are, elements_are, elements_small);
         }

@@ -126,39 +126,33 @@ module _ (ds : List Dimension) (each : List NonZeroU64) (elements : Box) (chains
     abbrev Is : List ℕ → Task → Type 0
     Is = IsTask ds (numbers each) elements first at
 
+    -- what the tasks fill or empty in one of the arrays
+    module _ (others : List Dimension) (begin : List ℕ) (chains_of : AllByRecursion IsChain others) (others_many : length others ≡ length ds)
+        (begin_is_box : IsBox (record { start = begin; shape = elements.shape })) (begin_lies : EndWithin begin elements.shape (array_sizes others))
+        (box_of : Task → Box) (is_box_of : (group : List ℕ) (task : Task) (is : Is group task) → box_of task ≡ shifted begin is.behind) where
+      abbrev met_by_group : List ℕ → ℕ × ℕ
+      met_by_group group = (
+        counted others begin chains_of others_many begin_is_box begin_lies met group,
+        counted others begin chains_of others_many begin_is_box begin_lies whole group,
+      )
+
+      are_met : (all : List (List ℕ)) (tasks : List Task) → AllByRecursion (HoldsSomeOf ds (numbers each) elements) all → AllZip Is all tasks
+          → AllZip (λ (task : Task). AreMet others (box_of task)) tasks (map met_by_group all)
+      are_met [] [] hold are = tt
+      are_met (group ∷ all) (task ∷ tasks) hold are =
+          let is = are.0 in (
+            subst (λ b. AreMet others b (met_by_group group)) (sym (is_box_of group task is))
+                (task_is_met others begin chains_of others_many begin_is_box begin_lies group is.behind hold.0 is.is_box is.buffer),
+            are_met all tasks hold.1 are.1,
+          )
+      are_met _ _ hold are = absurd are
+
     abbrev read_by : List ℕ → ℕ × ℕ
-    read_by group = (
-      counted source first source_chains source_many first_is_box first_lies met group,
-      counted source first source_chains source_many first_is_box first_lies whole group,
-    )
+    read_by =
+        met_by_group source first source_chains source_many first_is_box first_lies (λ (task : Task). task.source) (λ group task is. is.source)
 
     abbrev written_by : List ℕ → ℕ × ℕ
-    written_by group = (
-      counted target at target_chains target_many at_is_box at_lies met group,
-      counted target at target_chains target_many at_is_box at_lies whole group,
-    )
-
-    reads_are : (all : List (List ℕ)) (tasks : List Task) → AllByRecursion (HoldsSomeOf ds (numbers each) elements) all → AllZip Is all tasks
-        → AllZip (λ (task : Task). AreMet source task.source) tasks (map read_by all)
-    reads_are [] [] hold are = tt
-    reads_are (group ∷ all) (task ∷ tasks) hold are =
-        let is = are.0 in (
-          subst (λ b. AreMet source b (read_by group)) (sym is.source)
-              (task_is_met source first source_chains source_many first_is_box first_lies group is.behind hold.0 is.is_box is.buffer),
-          reads_are all tasks hold.1 are.1,
-        )
-    reads_are _ _ hold are = absurd are
-
-    writes_are : (all : List (List ℕ)) (tasks : List Task) → AllByRecursion (HoldsSomeOf ds (numbers each) elements) all → AllZip Is all tasks
-        → AllZip (λ (task : Task). AreMet target task.target) tasks (map written_by all)
-    writes_are [] [] hold are = tt
-    writes_are (group ∷ all) (task ∷ tasks) hold are =
-        let is = are.0 in (
-          subst (λ b. AreMet target b (written_by group)) (sym is.target)
-              (task_is_met target at target_chains target_many at_is_box at_lies group is.behind hold.0 is.is_box is.buffer),
-          writes_are all tasks hold.1 are.1,
-        )
-    writes_are _ _ hold are = absurd are
+    written_by = met_by_group target at target_chains target_many at_is_box at_lies (λ (task : Task). task.target) (λ group task is. is.target)
 
     sizes_of : (all : List (List ℕ)) (tasks : List Task) → AllByRecursion (HoldsSomeOf ds (numbers each) elements) all → AllZip Is all tasks
         → map (λ (task : Task). product task.source.shape) tasks
@@ -195,11 +189,13 @@ module _ (ds : List Dimension) (each : List NonZeroU64) (elements : Box) (chains
           tasks = counts.tasks ∙ as_many_tasks all tasks are_tasks;
           largest_task = counts.largest_task ∙ ap (fold max 0) (sym (sizes_of all tasks hold are_tasks));
           reads = map read_by all;
-          are_reads = reads_are all tasks hold are_tasks;
+          are_reads = are_met source first source_chains source_many first_is_box first_lies (λ (task : Task). task.source) (λ group task is. is.source) all tasks hold
+              are_tasks;
           chunks_read = counts.chunks_read ∙ ap sum (sym (map_of_map (λ (read : ℕ × ℕ). read.0) read_by all));
           elements_decoded = counts.elements_decoded ∙ ap sum (sym (map_of_map (λ (read : ℕ × ℕ). read.1) read_by all));
           writes = map written_by all;
-          are_writes = writes_are all tasks hold are_tasks;
+          are_writes = are_met target at target_chains target_many at_is_box at_lies (λ (task : Task). task.target) (λ group task is. is.target) all tasks hold
+              are_tasks;
           chunks_written = counts.chunks_written ∙ ap sum (sym (map_of_map (λ (write : ℕ × ℕ). write.0) written_by all));
         }
 

@@ -124,31 +124,29 @@ module _ {ds : List Dimension} {each : List ℕ} {elements : Box} {first at : Li
         }
 
   -- two tasks of different groups read different elements, and write different ones
-  read_apart : (one other : List ℕ) (task next : Task) → AllByRecursion IsChain ds → IsTask ds each elements first at one task
-      → IsTask ds each elements first at other next → one ≢ other → (index to also : List ℕ) → Moves task index to
-      → Moves next index also → ⊥
-  read_apart one other task next chains is is_next differ index to also goes goes_also =
-      let here = moves_only is index to goes in
-      let there = moves_only is_next index also goes_also in
-      let same : here.behind ≡ there.behind =
-      counted_once first here.behind there.behind (omega (arith, length_below elements.shape here.behind here.below, elements_long))
-      (omega (arith, length_below elements.shape there.behind there.below, elements_long)) (sym here.from ∙ there.from)
-      in
-      differ (same_group ds each one other _ chains here.in_group
-      (subst (λ steps. InGroup ds each other (counted_from elements.start steps)) (sym same) there.in_group))
+  module _ (one other : List ℕ) (task next : Task) (chains : AllByRecursion IsChain ds) (is : IsTask ds each elements first at one task)
+      (is_next : IsTask ds each elements first at other next) (differ : one ≢ other) where
+    apart : (start index to also into : List ℕ) → length start ≡ length elements.start → (here : MovesBehind ds each elements first at one index to)
+        → (there : MovesBehind ds each elements first at other also into) → counted_from start here.behind ≡ counted_from start there.behind → ⊥
+    apart start index to also into long here there counted =
+        let same : here.behind ≡ there.behind =
+        counted_once start here.behind there.behind (omega (arith, length_below elements.shape here.behind here.below, elements_long, long))
+        (omega (arith, length_below elements.shape there.behind there.below, elements_long, long)) counted
+        in
+        differ (same_group ds each one other _ chains here.in_group
+        (subst (λ steps. InGroup ds each other (counted_from elements.start steps)) (sym same) there.in_group))
 
-  written_apart : (one other : List ℕ) (task next : Task) → AllByRecursion IsChain ds → IsTask ds each elements first at one task
-      → IsTask ds each elements first at other next → one ≢ other → (to index also : List ℕ) → Moves task index to
-      → Moves next also to → ⊥
-  written_apart one other task next chains is is_next differ to index also goes goes_also =
-      let here = moves_only is index to goes in
-      let there = moves_only is_next also to goes_also in
-      let same : here.behind ≡ there.behind =
-      counted_once at here.behind there.behind (omega (arith, length_below elements.shape here.behind here.below, elements_long))
-      (omega (arith, length_below elements.shape there.behind there.below, elements_long)) (sym here.into ∙ there.into)
-      in
-      differ (same_group ds each one other _ chains here.in_group
-      (subst (λ steps. InGroup ds each other (counted_from elements.start steps)) (sym same) there.in_group))
+    read_apart : (index to also : List ℕ) → Moves task index to → Moves next index also → ⊥
+    read_apart index to also goes goes_also =
+        let here = moves_only is index to goes in
+        let there = moves_only is_next index also goes_also in
+        apart first index to index also first_long here there (sym here.from ∙ there.from)
+
+    written_apart : (to index also : List ℕ) → Moves task index to → Moves next also to → ⊥
+    written_apart to index also goes goes_also =
+        let here = moves_only is index to goes in
+        let there = moves_only is_next also to goes_also in
+        apart at index to also to at_long here there (sym here.into ∙ there.into)
 
 -- ---- all tasks
 
