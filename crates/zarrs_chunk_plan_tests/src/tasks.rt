@@ -7,9 +7,10 @@ use std::test::Fail;
 use zarrs_chunk_base::Refusal;
 use zarrs_chunk_plan::Share;
 use zarrs_chunk_tasks::laws::{
-    a_rechunking_writes_whole_chunks, each_element_goes_by_the_buffer,
-    each_task_lies_in_both_arrays, no_chunk_is_in_two_tasks, shares_are_together_the_tasks,
-    the_tasks_are_the_copy, the_walk_gives_the_tasks, there_are_tasks,
+    a_rechunking_writes_whole_chunks, counts_are_those_of_the_parts,
+    each_element_goes_by_the_buffer, each_task_lies_in_both_arrays, no_chunk_is_in_two_tasks,
+    shares_are_together_the_tasks, the_tasks_are_the_copy, the_walk_gives_the_tasks,
+    there_are_tasks,
 };
 use zarrs_chunk_tasks::{
     CountsAlong, Task, Tasks, TasksError, task_counts, task_counts_by_source, tasks,
@@ -294,6 +295,7 @@ fn the_laws_hold(rt: HostRuntime) -> Result<(), Fail> {
     a_rechunking_writes_whole_chunks(&target);
     each_task_lies_in_both_arrays(&source.grid, &target.grid);
     shares_are_together_the_tasks();
+    counts_are_those_of_the_parts(&source);
     there_are_tasks(&source.grid, &target.grid, &region, &each);
     Ok(())
 }

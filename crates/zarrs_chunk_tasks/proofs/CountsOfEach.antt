@@ -6,7 +6,7 @@ use Rattle.zarrs_chunk_base.specs.Dimension.{Dimension, Holds, InBox, IsChain, I
 use Rattle.zarrs_chunk_base.proofs.InEach.{by_dimension, length_numbers, length_values}
 unfoldable use Rattle.zarrs_chunk_axes.specs.RowMajor.{row_major}
 use Rattle.zarrs_chunks.specs.Walks.{chunks_in, counted_from}
-use Rattle.zarrs_chunks.proofs.ChunksInBoxes.{are_those_inside, chunks_once}
+use Rattle.zarrs_chunks.proofs.ChunksInBoxes.{are_those_inside}
 use Rattle.zarrs_chunks.proofs.Chains.{in_chain}
 use Rattle.zarrs_chunks.proofs.Covers.{head_some, tail_some}
 use Rattle.zarrs_chunk_plan.specs.Counts.{product}
@@ -106,15 +106,9 @@ box_is_met ds b chains is_box some lies =
     let firsts = length_numbers Holds ds cover.start b.start is.first in
     let long = spans ds cover.start cover.shape b.start b.shape chains is.some (sym is.is_box.lengths) (sym is_box.lengths) firsts starts is.first is.last in
     record {
-      chunks = record {
-        members = chunks_in cover;
-        once = chunks_once cover is.is_box;
-        are_those = λ chunk. (
-          λ among. (covers.named chunk).0 ((are_those_inside cover is.is_box chunk).0 among),
-          λ meets. (are_those_inside cover is.is_box chunk).1 ((covers.named chunk).1 meets),
-        );
-        as_many = in_box_many cover ∙ ap product long.chunks;
-      };
+      cover = cover;
+      is_cover = covers;
+      chunks = in_box_many cover ∙ ap product long.chunks;
       shapes = map (met_by (edges ds)) (chunks_in cover);
       are_shapes =
           all_zip_map (IsShape ds) (met_by (edges ds)) (chunks_in cover)

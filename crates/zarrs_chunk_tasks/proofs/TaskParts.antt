@@ -1,16 +1,21 @@
 -- The parts that a task reads and writes.
-use Rattle.std.proofs.Common.{◌≡◌, ◌∙◌, ◌/◌, ℕ, IsTrue, List, [], ◌∷◌, Contains, length, subst, sym, arith}
-use Rattle.std.specs.List.{AllByRecursion}
+use Rattle.std.proofs.Common.{◌≡◌, ◌∙◌, ◌/◌, ℕ, IsTrue, List, [], ◌∷◌, Contains, length, map, refl, ap, ap₂, subst, sym, arith}
+use Rattle.std.proofs.lemmas.Slice.Zip.{AllZip-long}
+use Rattle.std.specs.List.{AllByRecursion, AllZip, sum}
 use Rattle.zarrs_chunk_base.specs.ArraySubset.{Box, IsBox, IsInside}
-use Rattle.zarrs_chunk_base.specs.Dimension.{Dimension, InBox, IsChain}
+use Rattle.zarrs_chunk_base.specs.Dimension.{Dimension, HasEdge, InBox, IsChain, IsShape}
+use Rattle.zarrs_chunk_base.proofs.InEach.{same_values}
 use Rattle.zarrs_chunk_axes.specs.InBounds.{AreBelow}
 use Rattle.zarrs_chunks.specs.Walks.{chunks_in, counted_from}
 use Rattle.zarrs_chunks.proofs.ChunksInBoxes.{are_those_inside, length_below, lie_within}
-use Rattle.zarrs_chunk_parts.specs.Plan.{HasElement, IsPlan}
+use Rattle.zarrs_chunk_parts.specs.Plan.{HasElement, IsPart, IsPlan}
 use Rattle.zarrs_chunk_parts.specs.declared.part.Part.{Part}
+use Rattle.zarrs_chunk_plan.specs.Counts.{product}
 use Rattle.zarrs_chunk_plan.specs.Rechunking.{array_box}
+use Rattle.zarrs_chunk_plan.proofs.SameBoxes.{chunks_of_same}
 use Rattle.zarrs_chunk_plan.proofs.Plans.{all_long, chunk_of, counted_once, has_common, length_counted, some_part, source_of}
 use Rattle.zarrs_chunk_plan.proofs.Rechunkings.{in_array}
+use Rattle.zarrs_chunk_tasks.specs.Counts.{AreMet, parts_met}
 use Rattle.zarrs_chunk_tasks.specs.Groups.{InGroup}
 use Rattle.zarrs_chunk_tasks.specs.Tasks.{AreTasksByTarget, GoesByBuffer, IsTask, Moves}
 use Rattle.zarrs_chunk_tasks.specs.declared.task.Task.{Task}
@@ -78,3 +83,30 @@ writes_whole ds IsKey each tasks chains are task among parts plan part in_parts 
     (λ other holds below.
     subst (λ b. IsInside b other) (sym is.target)
     ((is.buffer.elements other).1 ((in_array ds other).0 below, in_the_group ds each chunk group index other chains box in_group holds)))
+
+-- ---- what parts have
+
+same_edges : (d : Dimension) (c n m : ℕ) → HasEdge d c n → HasEdge d c m → n ≡ m
+same_edges d c n m one other = omega (arith, one.edge, other.edge)
+
+shapes_are : (ds : List Dimension) (IsKey : List ℕ → List ℕ → Type 0) (b : Box) (chunks shapes : List (List ℕ)) (parts : List Part)
+    → AllZip (IsShape ds) chunks shapes → AllZip (IsPart ds IsKey b) chunks parts → map product shapes ≡ map (λ (part : Part). product part.shape.items) parts
+shapes_are ds IsKey b [] [] [] are are_parts = refl
+shapes_are ds IsKey b (chunk ∷ chunks) (shape ∷ shapes) (part ∷ parts) are are_parts =
+    ap₂ (λ n ns. n ∷ ns) (ap product (same_values HasEdge same_edges ds chunk shape part.shape.items are.0 are_parts.0.shape))
+    (shapes_are ds IsKey b chunks shapes parts are.1 are_parts.1)
+shapes_are ds IsKey b _ _ _ are are_parts = absurd assumption
+
+-- what is met of a box is what its plan reads
+pub met_by_parts : (ds : List Dimension) (IsKey : List ℕ → List ℕ → Type 0) (b : Box) (met : ℕ × ℕ) (parts : List Part) → AreMet ds b met
+    → IsPlan ds IsKey b parts → met ≡ parts_met parts
+met_by_parts ds IsKey b (many, elements) parts are plan =
+    let same = chunks_of_same are.cover plan.cover are.is_cover.is_box plan.is_cover.is_box
+    (λ chunk. (
+      λ inside. (plan.is_cover.named chunk).1 ((are.is_cover.named chunk).0 inside),
+      λ inside. (are.is_cover.named chunk).1 ((plan.is_cover.named chunk).0 inside),
+    ))
+    in
+    let shapes = subst (λ chunks. AllZip (IsShape ds) chunks are.shapes) same are.are_shapes in
+    ap₂ (λ n m. (n, m)) (sym are.chunks ∙ ap length same ∙ sym (AllZip-long (IsPart ds IsKey b) (chunks_in plan.cover) parts plan.are_parts))
+    (sym are.elements ∙ ap sum (shapes_are ds IsKey b (chunks_in plan.cover) are.shapes parts shapes plan.are_parts))

@@ -4,17 +4,25 @@ use Rattle.std.specs.Prelude.{◌≡◌, ℕ, List, fold, length, map, max}
 use Rattle.std.specs.List.{AllZip, sum}
 use Rattle.zarrs_chunk_base.specs.ArraySubset.{Box}
 use Rattle.zarrs_chunk_base.specs.Dimension.{Dimension, IsShape}
-use Rattle.zarrs_chunk_parts.specs.Plan.{Meets}
-use Rattle.zarrs_chunk_plan.specs.Counts.{AreMany, product}
+use Rattle.zarrs_chunks.specs.Walks.{chunks_in}
+use Rattle.zarrs_chunk_parts.specs.Plan.{Covers}
+use Rattle.zarrs_chunk_parts.specs.declared.part.Part.{Part}
+use Rattle.zarrs_chunk_plan.specs.Counts.{product}
 use Rattle.zarrs_chunk_tasks.specs.declared.counts.CountsAlong.{CountsAlong}
 use Rattle.zarrs_chunk_tasks.specs.declared.task.Task.{Task}
 
 -- How many chunks hold some of a box of elements, and how many elements these chunks have, each whole.
 pub record AreMet (ds : List Dimension) (b : Box) (met : ℕ × ℕ) : Type 0 where
-  pub chunks : AreMany (Meets ds b) met.0
+  pub cover : Box
+  pub is_cover : Covers ds b cover
+  pub chunks : length (chunks_in cover) ≡ met.0
   pub shapes : List (List ℕ)
-  pub are_shapes : AllZip (IsShape ds) chunks.members shapes
+  pub are_shapes : AllZip (IsShape ds) (chunks_in cover) shapes
   pub elements : sum (map product shapes) ≡ met.1
+
+-- The same of the parts of a plan: how many there are, and how many elements their chunks have.
+abbrev pub parts_met : List Part → ℕ × ℕ
+parts_met parts = (length parts, sum (map (λ (part : Part). product part.shape.items) parts))
 
 -- a count of all dimensions together
 abbrev pub in_all : (CountsAlong → ℕ) → List CountsAlong → ℕ

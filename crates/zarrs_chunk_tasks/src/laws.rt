@@ -10,6 +10,7 @@
 //! | No chunk of the grouped array is in two tasks | [`no_chunk_is_in_two_tasks`] |
 //! | An element that a task reads is written from the place of the buffer to which it was read | [`each_element_goes_by_the_buffer`] |
 //! | In a rechunking by groups of the target's chunks, each part that a task writes is whole | [`a_rechunking_writes_whole_chunks`] |
+//! | What is counted of a task's box is what its plan reads or writes: its parts, and the elements of their chunks | [`counts_are_those_of_the_parts`] |
 //! | There is a list of tasks for each copy | [`there_are_tasks`] |
 ghost use Rattle.std.specs.Prelude.{◌≡◌, ◌<◌, ℕ, IsTrue, List, Ok, map};
 ghost use Rattle.std.specs.Int.NonZero.{non_zero_u64_get};
@@ -21,6 +22,7 @@ ghost use Rattle.zarrs_chunk_parts.specs.Plan.{IsPlan, Meets};
 ghost use Rattle.zarrs_chunk_plan.specs.Rechunking.{array_box};
 ghost use Rattle.zarrs_chunk_plan.specs.Region.{LiesIn, moved};
 ghost use Rattle.zarrs_chunk_plan.specs.Shares.{numbered_share};
+ghost use Rattle.zarrs_chunk_tasks.specs.Counts.{AreMet, parts_met};
 ghost use Rattle.zarrs_chunk_tasks.specs.Tasks.{AreTasks, AreTasksBySource, AreTasksByTarget, AreTheCopy, GoesByBuffer, HasTasks, Moves};
 ghost use Rattle.zarrs_chunk_tasks.specs.seen.Tasks.{ArePlanned, AreTasksToCome, CanGive, GivesTask};
 
@@ -143,4 +145,14 @@ pub fn a_rechunking_writes_whole_chunks<H: ChunkGridTraits, F: ChunkKeyEncodingT
         → (task : Task) → Contains tasks task → (parts : List Part)
         → IsPlan (H.dimensions target.now.grid) (F.is_key target.now.encoding) task.target parts
         → (part : Part) → Contains parts part → IsTrue part.whole }
+{}
+
+/// What is counted of a box that a task reads or writes are the parts of the box's plan, and the elements of their chunks, each whole.
+pub fn counts_are_those_of_the_parts<G: ChunkGridTraits, E: ChunkKeyEncodingTraits>(
+    array: &StoredArray<G, E>,
+)
+    ensures { (elements : Box) (met : ℕ × ℕ) (parts : List Part)
+        → AreMet (G.dimensions array.now.grid) elements met
+        → IsPlan (G.dimensions array.now.grid) (E.is_key array.now.encoding) elements parts
+        → met ≡ parts_met parts }
 {}
