@@ -23,8 +23,8 @@ def tasks(sides, sizes):
 def parts(chain, first, size, start, end):
     """Returns the parts of a group along one dimension, each of one chunk.
 
-    A part has the chunk, its whole edge, where the part begins there and in the buffer, how long it is, and whether it is all
-    that the chunk has of the array.
+    A part has the chunk, its whole edge, where the part begins there and in the buffer, and how long it is. It tells whether this
+    is all that the chunk has of the array.
     """
     found = []
     for chunk in range(chain.holder(first + start), chain.holder(first + end - 1) + 1):

@@ -145,6 +145,14 @@ pub takes_here : (d : Dimension) (k at size first_chunk last_chunk group groups 
     → many < groups → TakesSome (grouped d k) at size (group + many)
 takes_here d k at size first_chunk last_chunk group groups many taking within = taking.take (group + many) (omega arith) (omega arith)
 
+-- the group that comes some steps after those before takes some, and its number isn't cut off
+pub takes_at : (d : Dimension) (k at size first_chunk last_chunk group groups before many steps begin here : ℕ)
+    → AreTaking k at size first_chunk last_chunk group groups d → before + many ≤ groups → steps < many → begin ≡ min (group + before) greatest
+    → here ≡ min (begin + steps) greatest → (here ≡ group + before + steps) × TakesSome (grouped d k) at size here
+takes_at d k at size first_chunk last_chunk group groups before many steps begin here taking within less begin_is here_is =
+    let fits = taking.groups_fit in
+    (omega (arith, begin_is, here_is, within), taking.take here (omega (arith, begin_is, here_is, within)) (omega (arith, begin_is, here_is, within)))
+
 module _ (d other : Dimension) (k at size first_chunk last_chunk group groups first many : ℕ) (chain : IsChain d) (some : 0 < k)
     (taking : AreTaking k at size first_chunk last_chunk group groups d) (within : many < groups) where
   abbrev g : Dimension

@@ -22,7 +22,7 @@ use zarrs_chunk_parts::expect_answer;
 use zarrs_chunks::ChunkGridTraits;
 
 /// What the tasks of a copy read and write, along one dimension. A count of the tasks is the product of these numbers over all dimensions: it may be
-/// larger than any integer type holds. Without tasks each number is 0.
+/// larger than any integer type holds. These products are promised, and that each number is 0 without tasks.
 #[derive(Clone, Copy, Debug, PartialEq, Eq)]
 pub struct CountsAlong {
     /// Groups that hold some of the region. The product is the number of tasks.

@@ -1,9 +1,7 @@
 use Rattle.std.proofs.Common.{◌≡◌, ◌+◌, arith, refl, subst, sym}
 use Rattle.std.specs.Int.NonZero.{non_zero_u64_get}
-use Rattle.zarrs_chunk_plan.specs.seen.Sources.{TakesSome}
 use Rattle.zarrs_chunk_tasks.specs.seen.Counts.{AreMetAlong, IsTaken}
-use Rattle.zarrs_chunk_tasks.specs.seen.Grouped.{grouped}
-use Rattle.zarrs_chunk_tasks.proofs.SumsAlong.{none_so_far, one, one_more, one_of, some_take, takes_here}
+use Rattle.zarrs_chunk_tasks.proofs.SumsAlong.{none_so_far, one, one_more, one_of, some_take, takes_at, takes_here}
 use Rattle.zarrs_chunk_tasks.proofs.groups_along.sums_one_by_one.Goals as goal
 
 pub loop-steps-init : goal.loop-steps-init
@@ -25,46 +23,30 @@ pub range_of-requires-clause-takes : goal.range_of-requires-clause-takes
 range_of-requires-clause-takes g c =
     let groups = c.args.groups.now in
     let it = one_of _ _ groups.dimension (g.met.K.ChunkGridTraits.chained groups.grid.now) c.requires.groups in
-    let taking = some_take (non_zero_u64_get groups.each) groups.at groups.size groups.first groups.last groups.group groups.groups c.args.before c.args.many it.d
-    (it.at _ c.requires.groups) c.requires.many
+    let (_, takes) = takes_at it.d (non_zero_u64_get groups.each) groups.at groups.size groups.first groups.last groups.group groups.groups c.args.before c.args.many
+    c.loop-steps.steps _ _ (it.at _ c.requires.groups) c.requires.many c.loop-steps-test.true c.saturating_add.ensures c.saturating_add-group.ensures
     in
-    let group_is : groups.group + c.args.before + c.loop-steps.steps ≡ c.saturating_add-group.result =
-    omega (arith, c.saturating_add-group.ensures, c.saturating_add.ensures, taking.groups_fit, c.loop-steps-test.true) in
-    it.back _ (subst (TakesSome (grouped it.d (non_zero_u64_get groups.each)) groups.at groups.size) group_is
-    (takes_here it.d (non_zero_u64_get groups.each) groups.at groups.size groups.first groups.last (groups.group + c.args.before) c.args.many
-    c.loop-steps.steps taking c.loop-steps-test.true))
+    it.back _ takes
 
 pub met_along-requires-clause-some : goal.met_along-requires-clause-some
 met_along-requires-clause-some g c =
     let groups = c.args.groups.now in
     let it = one_of _ _ groups.dimension (g.met.K.ChunkGridTraits.chained groups.grid.now) c.requires.groups in
-    let taking = some_take (non_zero_u64_get groups.each) groups.at groups.size groups.first groups.last groups.group groups.groups c.args.before c.args.many it.d
-    (it.at _ c.requires.groups) c.requires.many
+    let (_, takes) = takes_at it.d (non_zero_u64_get groups.each) groups.at groups.size groups.first groups.last groups.group groups.groups c.args.before c.args.many
+    c.loop-steps.steps _ _ (it.at _ c.requires.groups) c.requires.many c.loop-steps-test.true c.saturating_add.ensures c.saturating_add-group.ensures
     in
-    let group_is : groups.group + c.args.before + c.loop-steps.steps ≡ c.saturating_add-group.result =
-    omega (arith, c.saturating_add-group.ensures, c.saturating_add.ensures, taking.groups_fit, c.loop-steps-test.true) in
     let is = it.at _ (c.in_ok-before.ensures {u = tt}) in
-    let (_, takes) = subst (TakesSome (grouped it.d (non_zero_u64_get groups.each)) groups.at groups.size) group_is
-    (takes_here it.d (non_zero_u64_get groups.each) groups.at groups.size groups.first groups.last (groups.group + c.args.before) c.args.many
-    c.loop-steps.steps taking c.loop-steps-test.true)
-    in
-    omega (arith, is.many, takes)
+    omega (arith, is.many, takes.1)
 
 pub met_along-requires-clause-fits : goal.met_along-requires-clause-fits
 met_along-requires-clause-fits g c =
     let groups = c.args.groups.now in
     let it = one_of _ _ groups.dimension (g.met.K.ChunkGridTraits.chained groups.grid.now) c.requires.groups in
-    let taking = some_take (non_zero_u64_get groups.each) groups.at groups.size groups.first groups.last groups.group groups.groups c.args.before c.args.many it.d
-    (it.at _ c.requires.groups) c.requires.many
+    let (_, takes) = takes_at it.d (non_zero_u64_get groups.each) groups.at groups.size groups.first groups.last groups.group groups.groups c.args.before c.args.many
+    c.loop-steps.steps _ _ (it.at _ c.requires.groups) c.requires.many c.loop-steps-test.true c.saturating_add.ensures c.saturating_add-group.ensures
     in
-    let group_is : groups.group + c.args.before + c.loop-steps.steps ≡ c.saturating_add-group.result =
-    omega (arith, c.saturating_add-group.ensures, c.saturating_add.ensures, taking.groups_fit, c.loop-steps-test.true) in
     let is = it.at _ (c.in_ok-before.ensures {u = tt}) in
-    let (_, takes) = subst (TakesSome (grouped it.d (non_zero_u64_get groups.each)) groups.at groups.size) group_is
-    (takes_here it.d (non_zero_u64_get groups.each) groups.at groups.size groups.first groups.last (groups.group + c.args.before) c.args.many
-    c.loop-steps.steps taking c.loop-steps-test.true)
-    in
-    omega (arith, is.before, is.many, takes, c.saturating_add-from.ensures, c.requires.first)
+    omega (arith, is.before, is.many, takes.1, c.saturating_add-from.ensures, c.requires.first)
 
 pub loop-steps-preserved : goal.loop-steps-preserved
 loop-steps-preserved g c =
