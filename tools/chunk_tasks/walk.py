@@ -23,7 +23,7 @@ def tasks(sides, sizes):
 def parts(chain, first, size, start, end):
     """Returns the parts of a group along one dimension, each of one chunk.
 
-    A part has the chunk, its whole edge, where the part begins there and in the buffer, and how long it is. It tells whether this
+    A part has the chunk, its whole edge, where the part begins there and in the buffer, and how long it is. It says whether this
     is all that the chunk has of the array.
     """
     found = []
