@@ -1,6 +1,7 @@
 mod CountsOfEach
 mod GroupBoxes
 mod GroupCounts
+mod GroupSizes
 mod Grouped
 mod RegularSums
 mod Sharing

@@ -1,4 +1,5 @@
 pub mod Counts
 pub mod GroupNumbers
 pub mod Grouped
+pub mod Sizes
 pub mod Tasks

@@ -28,6 +28,7 @@ mod group_numbers;
 mod groups_along;
 pub mod laws;
 mod plan;
+mod sizes;
 mod task;
 mod tasks_error;
 mod walk;

@@ -1,0 +1,94 @@
+-- The choice of tasks by what they cost, under a bound of memory.
+-- Source: this library's own.
+use Rattle.std.specs.Prelude.{◌≡◌, ℕ, ◌+◌, ◌*◌, ◌<◌, ◌≤◌, IsTrue, List, MatchOption, Option, fold, length, map, max, min}
+use Rattle.std.specs.Int.NonZero.{non_zero_u64_get}
+use Rattle.std.specs.List.{AllByRecursion, AllZip, sum}
+use Rattle.std.specs.declared.num.NonZeroU64.{NonZeroU64}
+use Rattle.zarrs_chunk_base.specs.ArraySubset.{Box, ends}
+use Rattle.zarrs_chunk_base.specs.Dimension.{Dimension, IsShape}
+use Rattle.zarrs_chunks.specs.Walks.{chunks_in}
+use Rattle.zarrs_chunk_parts.specs.Plan.{Covers}
+use Rattle.zarrs_chunk_plan.specs.Counts.{product}
+use Rattle.zarrs_chunk_plan.specs.Region.{moved}
+use Rattle.zarrs_chunk_tasks.specs.Counts.{AreMet}
+use Rattle.zarrs_chunk_tasks.specs.Tasks.{AreTasksByTarget}
+use Rattle.zarrs_chunk_tasks.specs.declared.cheapest.CheapestTasks.{CheapestTasks}
+use Rattle.zarrs_chunk_tasks.specs.declared.task.Task.{Task}
+
+-- How many elements the largest chunk has, whole, of those that hold some of a box.
+pub record IsLargestChunk (ds : List Dimension) (b : Box) (largest : ℕ) : Type 0 where
+  pub cover : Box
+  pub is_cover : Covers ds b cover
+  pub shapes : List (List ℕ)
+  pub are_shapes : AllZip (IsShape ds) (chunks_in cover) shapes
+  pub largest_is : fold max 0 (map product shapes) ≡ largest
+
+-- What tasks cost: a task costs the elements of the chunks that it reads, whole, and as many as one read is worth for each of them.
+pub record IsCost (source : List Dimension) (read_elements : ℕ) (tasks : List Task) (cost : ℕ) : Type 0 where
+  pub reads : List (ℕ × ℕ)
+  pub are_reads : AllZip (λ (task : Task). AreMet source task.source) tasks reads
+  pub cost_is : sum (map (λ (read : ℕ × ℕ). read.0 * read_elements + read.1) reads) ≡ cost
+
+-- each buffer has at most so many elements, together with a chunk of so many
+abbrev pub HoldAtMost : (chunk most : ℕ) → List Task → Type 0
+HoldAtMost chunk most = AllByRecursion (λ (task : Task). product task.source.shape + chunk ≤ most)
+
+-- the greatest cost that is told: any that is no less is told as it
+abbrev pub greatest_cost : ℕ
+greatest_cost = 340282366920938463463374607431768211455
+
+-- up to which number each number of chunks is tried, and how many choices are gone through
+abbrev pub most_sizes : ℕ
+most_sizes = 65536
+
+abbrev pub most_choices : ℕ
+most_choices = 16777216
+
+-- a region of the source's array is copied to the target's, from `at` on
+module _ (source target : List Dimension) (region : Box) (at : List ℕ) where
+  -- how many elements the largest chunk has that is read or written, whole
+  pub record IsLargestOfBoth (largest : ℕ) : Type 0 where
+    pub read : ℕ
+    pub is_read : IsLargestChunk source region read
+    pub written : ℕ
+    pub is_written : IsLargestChunk target (moved at region) written
+    pub greater : max read written ≡ largest
+
+  -- the tasks by groups of so many chunks of the target
+  abbrev pub AreTasksOf : List NonZeroU64 → List Task → Type 0
+  AreTasksOf each = AreTasksByTarget target (map non_zero_u64_get each) region at
+
+  module _ (largest most read_elements : ℕ) where
+    -- no tasks that fit cost less than so much
+    abbrev pub NoneIsCheaper : (cost : ℕ) → Type 0
+    NoneIsCheaper cost =
+        (each : List NonZeroU64) → length each ≡ length source → (tasks : List Task) → AreTasksOf each tasks → HoldAtMost largest most tasks
+        → (its_cost : ℕ) × IsCost source read_elements tasks its_cost × (cost ≤ its_cost)
+
+    -- The chosen tasks fit, and cost what is told. Where the choice is exact, none that fit cost less.
+    pub record IsChosen (chosen : CheapestTasks) : Type 0 where
+      pub long : length chosen.task_chunks.items ≡ length source
+      pub fits : (tasks : List Task) → AreTasksOf chosen.task_chunks.items tasks → HoldAtMost largest most tasks
+      pub costs : (tasks : List Task) → AreTasksOf chosen.task_chunks.items tasks
+          → (cost : ℕ) × IsCost source read_elements tasks cost × (chosen.cost ≡ min cost greatest_cost)
+      pub told : IsTrue chosen.is_exact → chosen.cost < greatest_cost
+      pub cheapest : IsTrue chosen.is_exact → NoneIsCheaper chosen.cost
+
+    -- no tasks fit
+    abbrev pub NoneFits : Type 0
+    NoneFits =
+        (each : List NonZeroU64) → length each ≡ length source → (tasks : List Task) → AreTasksOf each tasks → ¬ HoldAtMost largest most tasks
+
+  -- what is chosen of a region that isn't empty
+  pub record IsChoice (most read_elements : ℕ) (found : Option CheapestTasks) : Type 0 where
+    pub largest : ℕ
+    pub is_largest : IsLargestOfBoth largest
+    pub choice : MatchOption found (NoneFits largest most read_elements) (IsChosen largest most read_elements)
+
+  -- The choice is exact if it costs less than the greatest cost, and the target's chunks up to the region's last one are few: at most 2^16 along each
+  -- dimension, and at most 2^24 along all together.
+  pub record IsExactIfFew (chosen : CheapestTasks) : Type 0 where
+    pub cover : Box
+    pub is_cover : Covers target (moved at region) cover
+    pub exact : AllByRecursion (λ n. n ≤ most_sizes) (ends cover.start cover.shape) → product (ends cover.start cover.shape) ≤ most_choices
+        → chosen.cost < greatest_cost → IsTrue chosen.is_exact

@@ -1,0 +1,108 @@
+-- How many chunks a group joins along one dimension, and what groups of that size cost.
+use Rattle.std.specs.Prelude.{◌≡◌, ℕ, ◌+◌, ◌-◌, ◌/◌, ◌<◌, ◌≤◌, ◌⊎◌, List, [], ◌∷◌, ◌++◌, fold, length, max}
+use Rattle.std.specs.Int.NonZero.{non_zero_u64_get}
+use Rattle.std.specs.List.{AllByRecursion, Contains, sum}
+use Rattle.zarrs_chunk_base.specs.Dimension.{Dimension}
+use Rattle.zarrs_chunk_plan.specs.seen.Sources.{met}
+use Rattle.zarrs_chunk_tasks.specs.declared.groups_along.GroupsAlong.{GroupsAlong}
+use Rattle.zarrs_chunk_tasks.specs.declared.sizes.Size.{Size}
+use Rattle.zarrs_chunk_tasks.specs.seen.Counts.{indices, of_groups, whole}
+use Rattle.zarrs_chunk_tasks.specs.seen.Grouped.{grouped}
+
+abbrev pub each_of : Size → ℕ
+each_of s = non_zero_u64_get s.each
+
+-- One dimension of a copy. `size` indices go from `first` on of the source to `at` on of the target. The target's chunks `low` and `high` hold the first
+-- one and the last one.
+pub record Side : Type 0 where
+  pub source : Dimension
+  pub target : Dimension
+  pub first : ℕ
+  pub at : ℕ
+  pub size : ℕ
+  pub low : ℕ
+  pub high : ℕ
+
+-- how many groups of k chunks hold some of the indices
+abbrev pub groups_of : Side → (k : ℕ) → ℕ
+groups_of side k = side.high / k - side.low / k + 1
+
+-- what is counted of each of these groups
+abbrev pub by_groups : (Dimension → (first size : ℕ) → ℕ) → Side → (k : ℕ) → List ℕ
+by_groups count side k =
+    of_groups count side.source (grouped side.target k) side.first side.at side.size (side.low / k) (groups_of side k)
+
+-- the longest of them, the chunks of the source that they meet, and the elements of these chunks
+abbrev pub largest_by : Side → (k : ℕ) → ℕ
+largest_by side k = fold max 0 (by_groups indices side k)
+
+abbrev pub chunks_by : Side → (k : ℕ) → ℕ
+chunks_by side k = sum (by_groups met side k)
+
+abbrev pub elements_by : Side → (k : ℕ) → ℕ
+elements_by side k = sum (by_groups whole side k)
+
+-- the size has the numbers of groups of so many chunks
+pub record IsSize (side : Side) (s : Size) : Type 0 where
+  pub some : 0 < s.largest
+  pub largest : s.largest ≡ largest_by side (each_of s)
+  pub chunks : s.chunks ≡ chunks_by side (each_of s)
+  pub elements : s.elements ≡ elements_by side (each_of s)
+
+-- groups of this size are no longer than groups of k chunks, and read and decode no more
+pub record Beats (side : Side) (k : ℕ) (s : Size) : Type 0 where
+  pub largest : s.largest ≤ largest_by side k
+  pub chunks : s.chunks ≤ chunks_by side k
+  pub elements : s.elements ≤ elements_by side k
+
+-- one of the sizes does
+abbrev pub IsBeaten : Side → List Size → (k : ℕ) → Type 0
+IsBeaten side sizes k = (s : Size) × Contains sizes s × Beats side k s
+
+-- the first size has the shortest groups
+pub record StartsWithLeast (side : Side) (sizes : List Size) : Type 0 where
+  pub first_size : Size
+  pub others : List Size
+  pub are : sizes ≡ first_size ∷ others
+  pub least : (k : ℕ) → 0 < k → first_size.largest ≤ largest_by side k
+
+-- the one size has groups that are no longer, and reads and decodes no more
+pub record IsNoWorse (one other : Size) : Type 0 where
+  pub largest : one.largest ≤ other.largest
+  pub chunks : one.chunks ≤ other.chunks
+  pub elements : one.elements ≤ other.elements
+
+-- a size is put behind those that are kept, unless one of them is no worse
+abbrev pub Keeps : (before : List Size) → Size → (after : List Size) → Type 0
+Keeps before size after = (after ≡ before ++ size ∷ []) ⊎ ((after ≡ before) × ((one : Size) × Contains before one × IsNoWorse one size))
+
+-- how many sizes are tried one after another
+abbrev pub most_sizes : ℕ
+most_sizes = 65536
+
+-- The sizes that are tried. Where the chunks are few, they are no more than the chunks, and beat groups of each number of chunks.
+pub record AreSizes (side : Side) (sizes : List Size) : Type 0 where
+  pub are : AllByRecursion (IsSize side) sizes
+  pub least : StartsWithLeast side sizes
+  pub few : side.high < most_sizes → length sizes ≤ side.high + 1
+  pub all : side.high < most_sizes → (k : ℕ) → 0 < k → IsBeaten side sizes k
+
+-- sizes up to a number of chunks
+pub record AreSizesTo (side : Side) (most : ℕ) (sizes : List Size) : Type 0 where
+  pub are : AllByRecursion (IsSize side) sizes
+  pub least : 0 < most → StartsWithLeast side sizes
+  pub few : length sizes ≤ most
+  pub all : (k : ℕ) → 0 < k → k ≤ most → IsBeaten side sizes k
+
+module _ {K : Type 0} where
+  -- the range of some groups, as a dimension of a copy
+  abbrev pub side_of : GroupsAlong K → (first : ℕ) → (target source : Dimension) → Side
+  side_of groups first target source = record {
+    source = source;
+    target = target;
+    first = first;
+    at = groups.at;
+    size = groups.size;
+    low = groups.first;
+    high = groups.last;
+  }

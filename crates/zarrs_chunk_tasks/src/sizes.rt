@@ -1,0 +1,161 @@
+//! How many chunks a group joins along one dimension, and what groups of that size cost.
+ghost use Rattle.std.specs.Prelude.{◌≡◌, ◌+◌, ◌≤◌, IfOk, IsTrue};
+ghost use Rattle.std.specs.List.{Contains};
+ghost use Rattle.zarrs_chunk_axes.specs.Along.{Along};
+ghost use Rattle.zarrs_chunk_base.specs.Greatest.{greatest};
+ghost use Rattle.zarrs_chunk_tasks.specs.declared.sizes.Size.{Size};
+ghost use Rattle.zarrs_chunk_tasks.specs.seen.Counts.{GroupsTake};
+ghost use Rattle.zarrs_chunk_tasks.specs.seen.Sizes.{AreSizes, AreSizesTo, IsNoWorse, IsSize, Keeps, side_of};
+
+use crate::groups_along::{GroupsAlong, sums_along};
+use std::alloc::{AllocError, Global};
+use std::num::NonZeroU64;
+use zarrs_chunks::ChunkGridTraits;
+
+/// Up to which number each number of chunks is tried.
+pub(crate) const MOST_SIZES: u64 = 1 << 16;
+
+/// How many chunks a group joins along a dimension, and what groups of that size cost.
+#[derive(Drop)]
+pub(crate) struct Size {
+    /// The number of chunks,
+    pub(crate) each: NonZeroU64,
+    /// how many indices the longest group takes,
+    pub(crate) largest: u64,
+    /// how many chunks of the source the groups meet, one that several meet in each,
+    pub(crate) chunks: u64,
+    /// and how many elements these have, whole.
+    pub(crate) elements: u128,
+}
+
+/// Returns the sizes that are tried, where `range` is a range of indices by groups of any number of chunks, and begins at `first` in the array of another
+/// grid. One chunk comes first. Of the others each has shorter groups than one before it, or reads or decodes less.
+///
+/// Each number of chunks is tried up to 2^16. From there on they are so many that there is one group, two, four, and so on.
+///
+/// # Errors
+/// Out of memory.
+pub(crate) fn sizes_along<K: ChunkGridTraits, G: ChunkGridTraits>(
+    alloc: Global,
+    range: &GroupsAlong<K>,
+    other: &G,
+    first: u64,
+) -> Result<Vec<Size>, AllocError>
+    requires range { Along (GroupsTake range.now) (K.dimensions range.now.grid.now)
+        range.now.dimension }
+    requires other { Along (λ s. first + range.now.size ≤ s.array_size) (G.dimensions other.now)
+        range.now.dimension }
+    requires first { first + range.now.size ≤ greatest }
+    ensures { IfOk result (λ sizes. Along (λ d. Along (λ s. AreSizes (side_of range.now first d s)
+        sizes.items) (G.dimensions other.now) range.now.dimension)
+        (K.dimensions range.now.grid.now) range.now.dimension) }
+{
+    // No number of a chunk is the greatest number.
+    let mut each = NonZeroU64::MIN.saturating_add(range.last);
+    let mut sizes = sizes_to(alloc, range, other, first, each.get().min(MOST_SIZES))?;
+    while each.get() > MOST_SIZES {
+        let size = size_of(alloc, range, each, other, first)?;
+        keep(&mut sizes, size)?;
+        each = NonZeroU64::MIN.saturating_add((each.get() - 1) / 2);
+    }
+    Ok(sizes)
+}
+
+/// Returns the sizes of up to so many chunks.
+///
+/// # Errors
+/// Out of memory.
+fn sizes_to<K: ChunkGridTraits, G: ChunkGridTraits>(
+    alloc: Global,
+    range: &GroupsAlong<K>,
+    other: &G,
+    first: u64,
+    most: u64,
+) -> Result<Vec<Size>, AllocError>
+    requires range { Along (GroupsTake range.now) (K.dimensions range.now.grid.now)
+        range.now.dimension }
+    requires other { Along (λ s. first + range.now.size ≤ s.array_size) (G.dimensions other.now)
+        range.now.dimension }
+    requires first { first + range.now.size ≤ greatest }
+    ensures { IfOk result (λ sizes. Along (λ d. Along (λ s. AreSizesTo (side_of range.now first d s)
+        most sizes.items) (G.dimensions other.now) range.now.dimension)
+        (K.dimensions range.now.grid.now) range.now.dimension) }
+{
+    let mut sizes = Vec::new(alloc);
+    for before in 0..most {
+        let each = NonZeroU64::MIN.saturating_add(before);
+        let size = size_of(alloc, range, each, other, first)?;
+        keep(&mut sizes, size)?;
+    }
+    Ok(sizes)
+}
+
+/// Counts the groups of `each` chunks.
+///
+/// # Errors
+/// Out of memory.
+fn size_of<K: ChunkGridTraits, G: ChunkGridTraits>(
+    alloc: Global,
+    range: &GroupsAlong<K>,
+    each: NonZeroU64,
+    other: &G,
+    first: u64,
+) -> Result<Size, AllocError>
+    requires range { Along (GroupsTake range.now) (K.dimensions range.now.grid.now)
+        range.now.dimension }
+    requires other { Along (λ s. first + range.now.size ≤ s.array_size) (G.dimensions other.now)
+        range.now.dimension }
+    requires first { first + range.now.size ≤ greatest }
+    ensures each { IfOk result (λ size. size.each ≡ each) }
+    ensures size { IfOk result (λ size. Along (λ d. Along (λ s. IsSize (side_of range.now first d s)
+        size) (G.dimensions other.now) range.now.dimension)
+        (K.dimensions range.now.grid.now) range.now.dimension) }
+{
+    let group = range.first / each;
+    let groups = GroupsAlong {
+        grid: range.grid,
+        dimension: range.dimension,
+        each,
+        at: range.at,
+        size: range.size,
+        first: range.first,
+        last: range.last,
+        group,
+        groups: (range.last / each).saturating_sub(group).saturating_add(1),
+    };
+    let sums = sums_along(alloc, &groups, other, first)?;
+    Ok(Size {
+        each,
+        largest: sums.largest,
+        chunks: sums.chunks,
+        elements: sums.elements,
+    })
+}
+
+/// Keeps a size, unless its groups are no shorter than those of one that is kept, and it reads and decodes no less.
+///
+/// # Errors
+/// Out of memory.
+fn keep(sizes: &mut Vec<Size>, size: Size) -> Result<(), AllocError>
+    ensures { IfOk result (λ _. Keeps sizes.old.items size sizes.new.items) }
+{
+    if !is_beaten(sizes, &size) {
+        sizes.push(size)?;
+    }
+    Ok(())
+}
+
+/// Whether one of some sizes takes the place of another one in each choice.
+fn is_beaten(sizes: &[Size], size: &Size) -> bool
+    ensures { IsTrue result → (other : Size) × Contains sizes.now other × IsNoWorse other size.now }
+{
+    for other in sizes {
+        if other.largest <= size.largest
+            && other.chunks <= size.chunks
+            && other.elements <= size.elements
+        {
+            return true;
+        }
+    }
+    false
+}
