@@ -92,7 +92,7 @@ map_of_map g f [] = refl
 map_of_map g f (x ∷ xs) = ap (λ zs. g (f x) ∷ zs) (map_of_map g f xs)
 
 -- a chunk that holds an index is as long as its edges
-has_edges : (ds : List Dimension) (chunk index : List ℕ) → InBox ds chunk index → IsShape ds chunk (met_by (edges ds) chunk)
+pub has_edges : (ds : List Dimension) (chunk index : List ℕ) → InBox ds chunk index → IsShape ds chunk (met_by (edges ds) chunk)
 has_edges =
     by_dimension Holds (λ ds chunk index. IsShape ds chunk (met_by (edges ds) chunk)) tt
     (λ d c i ds chunk index here rest. (record { chunk = here.chunk; edge = omega (arith, here.from, here.below) }, rest))

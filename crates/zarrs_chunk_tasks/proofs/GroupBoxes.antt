@@ -338,30 +338,28 @@ module _ (ds : List Dimension) (each : List NonZeroU64) (chains : AllByRecursion
           last_many = length_numbers Holds ds (lasts cover.start cover.shape) (lasts elements.start elements.shape) is.last;
         }
 
+    -- the groups from the one of the first chunk to the one of the last are the cover of the box by groups
+    pub is_group_cover : (¬ IsEmptyBox elements) → IsCover (groups ds each) elements (groups_from each cover)
+    is_group_cover some =
+        let first = groups_of each cover.start in
+        let last = groups_of each (lasts cover.start cover.shape) in
+        let in_first = joins ds each cover.start elements.start chains many is.first in
+        let in_last = joins ds each _ _ chains many is.last in
+        let order = in_order (groups ds each) first last elements.start (lasts elements.start elements.shape) are_chains
+        (firsts_before_lasts elements.start elements.shape is_box.lengths) in_first in_last in
+        let small = chunks_small (λ n. n < greatest) (λ m n low below. omega arith) (groups ds each) last (lasts elements.start elements.shape) are_chains
+        in_last (lasts_small elements.start elements.shape is_box.lengths is_box.fits some) in
+        let (lengths, same) = counts_reach first last order small in
+        is_cover (groups ds each) elements (groups_from each cover) first last (record { lengths = lengths; fits = rw same (ones_fit last small) }) refl
+        same order in_first in_last
+
     -- the groups that hold some of the box, as a box of their numbers
     pub groups_named : (¬ IsEmptyBox elements) → (group : List ℕ)
         → IsInside (groups_from each cover) group ↔ HoldsSomeOf ds (numbers each) elements group
     groups_named some group =
         let holds = meets_as_chunk elements group in
-        let named = (covers_some (groups ds each) elements (groups_from each cover) are_chains is_box some is_group_cover).named group in
-        (λ within. holds.1 (named.0 within), λ has. named.1 (holds.0 has)) where
-          first : List ℕ
-          first = groups_of each cover.start
-
-          last : List ℕ
-          last = groups_of each (lasts cover.start cover.shape)
-
-          is_group_cover : IsCover (groups ds each) elements (groups_from each cover)
-          is_group_cover =
-              let in_first = joins ds each cover.start elements.start chains many is.first in
-              let in_last = joins ds each _ _ chains many is.last in
-              let order = in_order (groups ds each) first last elements.start (lasts elements.start elements.shape) are_chains
-              (firsts_before_lasts elements.start elements.shape is_box.lengths) in_first in_last in
-              let small = chunks_small (λ n. n < greatest) (λ m n low below. omega arith) (groups ds each) last (lasts elements.start elements.shape) are_chains
-              in_last (lasts_small elements.start elements.shape is_box.lengths is_box.fits some) in
-              let (lengths, same) = counts_reach first last order small in
-              is_cover (groups ds each) elements (groups_from each cover) first last (record { lengths = lengths; fits = rw same (ones_fit last small) }) refl
-              same order in_first in_last
+        let named = (covers_some (groups ds each) elements (groups_from each cover) are_chains is_box some (is_group_cover some)).named group in
+        (λ within. holds.1 (named.0 within), λ has. named.1 (holds.0 has))
 
     module _ (group : List ℕ) (holds : HoldsSomeOf ds (numbers each) elements group) where
       abbrev pub first : List ℕ

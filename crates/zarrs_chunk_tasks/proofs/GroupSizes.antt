@@ -15,7 +15,8 @@ use Rattle.zarrs_chunk_tasks.specs.declared.groups_along.Sums.{Sums}
 use Rattle.zarrs_chunk_tasks.specs.declared.sizes.Size.{Size}
 use Rattle.zarrs_chunk_tasks.specs.seen.Counts.{AreOver, AreSums, AreTaking, indices, of_group, whole}
 use Rattle.zarrs_chunk_tasks.specs.seen.Grouped.{grouped}
-use Rattle.zarrs_chunk_tasks.specs.seen.Sizes.{AreSizes, AreSizesTo, Beats, IsBeaten, IsNoWorse, IsSize, Keeps, Side, StartsWithLeast, by_groups, each_of, groups_of, largest_by, most_sizes}
+use Rattle.zarrs_chunk_tasks.specs.Cheapest.{most_sizes}
+use Rattle.zarrs_chunk_tasks.specs.seen.Sizes.{AreSizes, AreSizesTo, Beats, IsBeaten, IsNoWorse, IsSize, Keeps, Side, StartsWithLeast, by_groups, each_of, groups_met, largest_by}
 use Rattle.zarrs_chunk_tasks.proofs.CountsOfEach.{Count}
 use Rattle.zarrs_chunk_tasks.proofs.GroupBoxes.{Reaches, first_in, last_in, reaching}
 use Rattle.zarrs_chunk_tasks.proofs.Grouped.{grouped_chain, last, last_in_group}
@@ -94,11 +95,11 @@ module _ (side : Side) (chain : IsChain side.target) (over : AreOver side.target
   -- the groups of one chunk are the shortest
   pub one_is_least : (k : ℕ) → 0 < k → largest_by side 1 ≤ largest_by side k
   one_is_least k some =
-      greatest_least (of_group indices side.source (grouped side.target 1) side.first side.at side.size) (side.low / 1) (groups_of side 1) (largest_by side k) each where
+      greatest_least (of_group indices side.source (grouped side.target 1) side.first side.at side.size) (side.low / 1) (groups_met side 1) (largest_by side k) each where
     ones : (n : ℕ) → n / 1 ≡ n
     ones n = omega (arith, div-mul-le_self n 1, lt-div-mul-add {a = n} {b = 1} (omega arith))
 
-    each : (j : ℕ) → j < groups_of side 1 → taken (grouped side.target 1) side.at side.size (side.low / 1 + j) ≤ largest_by side k
+    each : (j : ℕ) → j < groups_met side 1 → taken (grouped side.target 1) side.at side.size (side.low / 1 + j) ≤ largest_by side k
     each j within =
         let low = ones side.low in
         let high = ones side.high in
@@ -108,7 +109,7 @@ module _ (side : Side) (chain : IsChain side.target) (over : AreOver side.target
         let to : c / k ≤ side.high / k = (le-div_iff_mul-le some).1 (omega (arith, div-mul-le_self c k, high, within, order)) in
         let here : side.low / k + (c / k - side.low / k) ≡ c / k = omega (arith, up) in
         let more = takes_more side.target chain side.at side.size side.low side.high over k some c (omega (arith, low)) (omega (arith, within, low, high, order)) in
-        let is = greatest_is (of_group indices side.source (grouped side.target k) side.first side.at side.size) (side.low / k) (groups_of side k)
+        let is = greatest_is (of_group indices side.source (grouped side.target k) side.first side.at side.size) (side.low / k) (groups_met side k)
         (c / k - side.low / k) (omega (arith, up, to))
         in
         omega (arith, more, is, ap (taken (grouped side.target k) side.at side.size) here)
@@ -138,11 +139,11 @@ module _ (side : Side) (chain : IsChain side.target) (over : AreOver side.target
       (here.start ∙ sym there.start) (omega (arith, here.start, here.end, there.start, there.end)))
 
 -- the longest of some groups takes some
-pub longest_takes : (side : Side) (k : ℕ) → AreTaking k side.at side.size side.low side.high (side.low / k) (groups_of side k) side.target → 0 < largest_by side k
+pub longest_takes : (side : Side) (k : ℕ) → AreTaking k side.at side.size side.low side.high (side.low / k) (groups_met side k) side.target → 0 < largest_by side k
 longest_takes side k taking =
     let (_, some) = taking.take (side.low / k) (omega arith) (omega arith) in
     let here : side.low / k + 0 ≡ side.low / k = omega arith in
-    let is = greatest_is (of_group indices side.source (grouped side.target k) side.first side.at side.size) (side.low / k) (groups_of side k) 0 (omega arith) in
+    let is = greatest_is (of_group indices side.source (grouped side.target k) side.first side.at side.size) (side.low / k) (groups_met side k) 0 (omega arith) in
     omega (arith, some, is, ap (taken (grouped side.target k) side.at side.size) here)
 
 -- ---- what is found of groups
@@ -160,7 +161,7 @@ pub found_size : (side : Side) (group groups : ℕ) (s : Size) (sums : Sums) →
     → s.largest ≡ sums.largest → s.chunks ≡ sums.chunks → s.elements ≡ sums.elements → IsSize side s
 found_size side group groups s sums chain over group_is groups_is are largest chunks elements =
     let k = each_of s in
-    let many : groups ≡ groups_of side k =
+    let many : groups ≡ groups_met side k =
     omega (arith, groups_is, div-le_self side.high k, chunk_small side.target chain side.at side.size side.low side.high over)
     in
     let here = rw (group_is, many) at are in

@@ -14,10 +14,11 @@ use Rattle.zarrs_chunk_plan.proofs.MetChunks.{met_at_most, met_is}
 use Rattle.zarrs_chunk_plan.proofs.Products.{greatest_from, greatest_of}
 use Rattle.zarrs_chunk_plan.specs.seen.Sources.{TakesSome, met, taken, taken_from}
 use Rattle.zarrs_chunk_tasks.specs.declared.groups_along.Sums.{Sums}
+use Rattle.zarrs_chunk_tasks.specs.Counts.{greatest_of_128}
 use Rattle.zarrs_chunk_tasks.specs.seen.Counts.{AreAlike, AreSums, AreTaking, indices, of_group, of_groups, whole}
 use Rattle.zarrs_chunk_tasks.specs.seen.Grouped.{grouped}
 use Rattle.zarrs_chunk_tasks.proofs.Grouped.{grouped_chain, holds_its_chunks, next_group}
-use Rattle.zarrs_chunk_tasks.proofs.SumsAlong.{greatest_more, greatest_of_128, sum_more, whole_is}
+use Rattle.zarrs_chunk_tasks.proofs.SumsAlong.{greatest_more, sum_more, whole_is}
 
 -- ---- a regular dimension
 

@@ -13,6 +13,7 @@ use Rattle.zarrs_chunk_plan.proofs.MetChunks.{met_at_most, met_is}
 use Rattle.zarrs_chunk_plan.specs.seen.Sources.{TakesSome, home, home_from, met, taken_from}
 use Rattle.zarrs_chunk_tasks.specs.declared.groups_along.Met.{Met}
 use Rattle.zarrs_chunk_tasks.specs.declared.groups_along.Sums.{Sums}
+use Rattle.zarrs_chunk_tasks.specs.Counts.{greatest_of_128}
 use Rattle.zarrs_chunk_tasks.specs.seen.Counts.{AreMetAlong, AreSums, AreTaking, IsTaken, indices, of_group, whole}
 use Rattle.zarrs_chunk_tasks.specs.seen.Grouped.{grouped}
 use Rattle.zarrs_chunk_tasks.proofs.GroupBoxes.{Reaches, first_in, last_in}
@@ -118,10 +119,6 @@ none_so_far k at size group first d other sums largest chunks elements = record 
   few = λ last same. absurd (omega arith);
   small = omega (arith, chunks, elements);
 }
-
--- the greatest number of 128 bits
-abbrev pub greatest_of_128 : ℕ
-greatest_of_128 = 340282366920938463463374607431768211455
 
 pub greatest_more : (f : ℕ → ℕ) (begin many : ℕ)
     → fold max 0 (map f (range_with_len begin (many + 1))) ≡ max (fold max 0 (map f (range_with_len begin many))) (f (begin + many))

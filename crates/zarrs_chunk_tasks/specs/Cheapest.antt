@@ -10,7 +10,7 @@ use Rattle.zarrs_chunks.specs.Walks.{chunks_in}
 use Rattle.zarrs_chunk_parts.specs.Plan.{Covers}
 use Rattle.zarrs_chunk_plan.specs.Counts.{product}
 use Rattle.zarrs_chunk_plan.specs.Region.{moved}
-use Rattle.zarrs_chunk_tasks.specs.Counts.{AreMet}
+use Rattle.zarrs_chunk_tasks.specs.Counts.{AreMet, greatest_of_128}
 use Rattle.zarrs_chunk_tasks.specs.Tasks.{AreTasksByTarget}
 use Rattle.zarrs_chunk_tasks.specs.declared.cheapest.CheapestTasks.{CheapestTasks}
 use Rattle.zarrs_chunk_tasks.specs.declared.task.Task.{Task}
@@ -32,10 +32,6 @@ pub record IsCost (source : List Dimension) (read_elements : ℕ) (tasks : List 
 -- each buffer has at most so many elements, together with a chunk of so many
 abbrev pub HoldAtMost : (chunk most : ℕ) → List Task → Type 0
 HoldAtMost chunk most = AllByRecursion (λ (task : Task). product task.source.shape + chunk ≤ most)
-
--- the greatest cost that is told: any that is no less is told as it
-abbrev pub greatest_cost : ℕ
-greatest_cost = 340282366920938463463374607431768211455
 
 -- up to which number each number of chunks is tried, and how many choices are gone through
 abbrev pub most_sizes : ℕ
@@ -70,8 +66,8 @@ module _ (source target : List Dimension) (region : Box) (at : List ℕ) where
       pub long : length chosen.task_chunks.items ≡ length source
       pub fits : (tasks : List Task) → AreTasksOf chosen.task_chunks.items tasks → HoldAtMost largest most tasks
       pub costs : (tasks : List Task) → AreTasksOf chosen.task_chunks.items tasks
-          → (cost : ℕ) × IsCost source read_elements tasks cost × (chosen.cost ≡ min cost greatest_cost)
-      pub told : IsTrue chosen.is_exact → chosen.cost < greatest_cost
+          → (cost : ℕ) × IsCost source read_elements tasks cost × (chosen.cost ≡ min cost greatest_of_128)
+      pub told : IsTrue chosen.is_exact → chosen.cost < greatest_of_128
       pub cheapest : IsTrue chosen.is_exact → NoneIsCheaper chosen.cost
 
     -- no tasks fit
@@ -85,10 +81,16 @@ module _ (source target : List Dimension) (region : Box) (at : List ℕ) where
     pub is_largest : IsLargestOfBoth largest
     pub choice : MatchOption found (NoneFits largest most read_elements) (IsChosen largest most read_elements)
 
-  -- The choice is exact if it costs less than the greatest cost, and the target's chunks up to the region's last one are few: at most 2^16 along each
-  -- dimension, and at most 2^24 along all together.
-  pub record IsExactIfFew (chosen : CheapestTasks) : Type 0 where
-    pub cover : Box
-    pub is_cover : Covers target (moved at region) cover
-    pub exact : AllByRecursion (λ n. n ≤ most_sizes) (ends cover.start cover.shape) → product (ends cover.start cover.shape) ≤ most_choices
-        → chosen.cost < greatest_cost → IsTrue chosen.is_exact
+-- The choice is exact if it costs less than the greatest cost that is told, and the target's chunks up to the region's last one are few: at most 2^16 along
+-- each dimension, and at most 2^24 along all together.
+pub record IsExactIfFew (target : List Dimension) (region : Box) (at : List ℕ) (chosen : CheapestTasks) : Type 0 where
+  pub cover : Box
+  pub is_cover : Covers target (moved at region) cover
+  pub exact : AllByRecursion (λ n. n ≤ most_sizes) (ends cover.start cover.shape) → product (ends cover.start cover.shape) ≤ most_choices
+      → chosen.cost < greatest_of_128 → IsTrue chosen.is_exact
+
+-- no tasks cost nothing
+pub record IsOfNoTasks (source : List Dimension) (chosen : CheapestTasks) : Type 0 where
+  pub long : length chosen.task_chunks.items ≡ length source
+  pub cost : chosen.cost ≡ 0
+  pub is_exact : IsTrue chosen.is_exact

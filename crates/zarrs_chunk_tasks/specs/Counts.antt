@@ -11,6 +11,10 @@ use Rattle.zarrs_chunk_plan.specs.Counts.{product}
 use Rattle.zarrs_chunk_tasks.specs.declared.counts.CountsAlong.{CountsAlong}
 use Rattle.zarrs_chunk_tasks.specs.declared.task.Task.{Task}
 
+-- the greatest number of 128 bits
+abbrev pub greatest_of_128 : ℕ
+greatest_of_128 = 340282366920938463463374607431768211455
+
 -- How many chunks hold some of a box of elements, and how many elements these chunks have, each whole.
 pub record AreMet (ds : List Dimension) (b : Box) (met : ℕ × ℕ) : Type 0 where
   pub cover : Box

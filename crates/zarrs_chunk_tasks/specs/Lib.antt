@@ -1,3 +1,4 @@
+pub mod Cheapest
 pub mod Counts
 pub mod Groups
 pub mod Tasks

@@ -248,7 +248,7 @@ fn elements_to(start: u64, last_start: u64, edge: u64) -> u128
 ///
 /// # Errors
 /// Out of memory.
-fn found<T: Drop>(found: Option<T>) -> Result<T, AllocError>
+pub(crate) fn found<T: Drop>(found: Option<T>) -> Result<T, AllocError>
     ensures { IfOk result (λ value. found ≡ Some value) }
 {
     found.ok_or(AllocError)

@@ -23,16 +23,21 @@
 #![tactic(auto)]
 
 mod buffer;
+mod cheapest;
+mod choices;
 mod counts;
 mod group_numbers;
 mod groups_along;
+mod largest_chunk;
 pub mod laws;
 mod plan;
 mod sizes;
 mod task;
 mod tasks_error;
+mod tried;
 mod walk;
 
+pub use cheapest::{CheapestTasks, cheapest_tasks};
 pub use counts::{CountsAlong, task_counts, task_counts_by_source};
 pub use plan::{tasks, tasks_by_source};
 pub use task::Task;

@@ -16,7 +16,7 @@ use zarrs_chunks::ChunkGridTraits;
 pub(crate) const MOST_SIZES: u64 = 1 << 16;
 
 /// How many chunks a group joins along a dimension, and what groups of that size cost.
-#[derive(Drop)]
+#[derive(Clone, Copy)]
 pub(crate) struct Size {
     /// The number of chunks,
     pub(crate) each: NonZeroU64,

@@ -2,11 +2,13 @@
 use Rattle.std.specs.Prelude.{◌≡◌, ℕ, ◌+◌, ◌-◌, ◌/◌, ◌<◌, ◌≤◌, ◌⊎◌, List, [], ◌∷◌, ◌++◌, fold, length, max}
 use Rattle.std.specs.Int.NonZero.{non_zero_u64_get}
 use Rattle.std.specs.List.{AllByRecursion, Contains, sum}
-use Rattle.zarrs_chunk_base.specs.Dimension.{Dimension}
+use Rattle.zarrs_chunk_base.specs.Dimension.{Dimension, IsChain}
 use Rattle.zarrs_chunk_plan.specs.seen.Sources.{met}
+use Rattle.zarrs_chunk_tasks.specs.Cheapest.{most_sizes}
+use Rattle.zarrs_chunk_tasks.specs.declared.counts.CountsAlong.{CountsAlong}
 use Rattle.zarrs_chunk_tasks.specs.declared.groups_along.GroupsAlong.{GroupsAlong}
 use Rattle.zarrs_chunk_tasks.specs.declared.sizes.Size.{Size}
-use Rattle.zarrs_chunk_tasks.specs.seen.Counts.{indices, of_groups, whole}
+use Rattle.zarrs_chunk_tasks.specs.seen.Counts.{AreOver, indices, of_groups, whole}
 use Rattle.zarrs_chunk_tasks.specs.seen.Grouped.{grouped}
 
 abbrev pub each_of : Size → ℕ
@@ -23,14 +25,25 @@ pub record Side : Type 0 where
   pub low : ℕ
   pub high : ℕ
 
+-- it is one: the chunks hold what they say, and the numbers fit
+pub record IsSide (side : Side) : Type 0 where
+  pub chain : IsChain side.target
+  pub over : AreOver side.target side.at side.size side.low side.high
+
+-- the dimensions of a copy
+abbrev pub sides : (source target : List Dimension) → (first at shape low high : List ℕ) → List Side
+sides (s ∷ source) (t ∷ target) (f ∷ first) (a ∷ at) (n ∷ shape) (l ∷ low) (h ∷ high) =
+    record { source = s; target = t; first = f; at = a; size = n; low = l; high = h } ∷ sides source target first at shape low high
+sides _ _ _ _ _ _ _ = []
+
 -- how many groups of k chunks hold some of the indices
-abbrev pub groups_of : Side → (k : ℕ) → ℕ
-groups_of side k = side.high / k - side.low / k + 1
+abbrev pub groups_met : Side → (k : ℕ) → ℕ
+groups_met side k = side.high / k - side.low / k + 1
 
 -- what is counted of each of these groups
 abbrev pub by_groups : (Dimension → (first size : ℕ) → ℕ) → Side → (k : ℕ) → List ℕ
 by_groups count side k =
-    of_groups count side.source (grouped side.target k) side.first side.at side.size (side.low / k) (groups_of side k)
+    of_groups count side.source (grouped side.target k) side.first side.at side.size (side.low / k) (groups_met side k)
 
 -- the longest of them, the chunks of the source that they meet, and the elements of these chunks
 abbrev pub largest_by : Side → (k : ℕ) → ℕ
@@ -41,6 +54,21 @@ chunks_by side k = sum (by_groups met side k)
 
 abbrev pub elements_by : Side → (k : ℕ) → ℕ
 elements_by side k = sum (by_groups whole side k)
+
+-- what is counted of the groups of k chunks
+abbrev pub counts_by : Side → (k : ℕ) → CountsAlong
+counts_by side k = record {
+  tasks = groups_met side k;
+  largest_task = largest_by side k;
+  chunks_read = chunks_by side k;
+  elements_decoded = elements_by side k;
+  chunks_written = sum (of_groups met side.target (grouped side.target k) side.at side.at side.size (side.low / k) (groups_met side k));
+}
+
+-- along each dimension
+abbrev pub all_counts : List Side → (each : List ℕ) → List CountsAlong
+all_counts (side ∷ rest) (k ∷ each) = counts_by side k ∷ all_counts rest each
+all_counts _ _ = []
 
 -- the size has the numbers of groups of so many chunks
 pub record IsSize (side : Side) (s : Size) : Type 0 where
@@ -76,9 +104,10 @@ pub record IsNoWorse (one other : Size) : Type 0 where
 abbrev pub Keeps : (before : List Size) → Size → (after : List Size) → Type 0
 Keeps before size after = (after ≡ before ++ size ∷ []) ⊎ ((after ≡ before) × ((one : Size) × Contains before one × IsNoWorse one size))
 
--- how many sizes are tried one after another
-abbrev pub most_sizes : ℕ
-most_sizes = 65536
+-- some sizes, from that of the shortest groups on
+pub record AreTried (side : Side) (sizes : List Size) : Type 0 where
+  pub are : AllByRecursion (IsSize side) sizes
+  pub least : StartsWithLeast side sizes
 
 -- The sizes that are tried. Where the chunks are few, they are no more than the chunks, and beat groups of each number of chunks.
 pub record AreSizes (side : Side) (sizes : List Size) : Type 0 where

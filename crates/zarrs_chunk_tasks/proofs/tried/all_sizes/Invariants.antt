@@ -1,0 +1,13 @@
+use Rattle.std.proofs.Common.{take}
+use Rattle.std.specs.List.{AllZip}
+use Rattle.zarrs_chunk_tasks.specs.seen.Choices.{rows_of}
+use Rattle.zarrs_chunk_tasks.specs.seen.Sizes.{AreSizes, sides}
+use Rattle.zarrs_chunk_tasks.proofs.tried.all_sizes.Given as goal
+
+-- there are the sizes of each dimension so far
+abbrev pub invariant-loop-dimension : goal.invariant-loop-dimension
+invariant-loop-dimension g l =
+    AllZip AreSizes
+    (take l.dimension (sides (g.G.ChunkGridTraits.dimensions l.copied.source.now) (g.H.ChunkGridTraits.dimensions l.copied.target.now) l.copied.first.now
+    l.grouped.elements.now.start l.grouped.elements.now.shape l.grouped.cover.now.start l.grouped.last.now))
+    (rows_of l.rows.items)

@@ -1,0 +1,105 @@
+//! The cheapest tasks under a bound of memory.
+ghost use Rattle.std.specs.Prelude.{◌≡◌, ◌↔◌, ◌<◌, IfErr, IfOk, IfSome, IsTrue, MatchOption, None, length, reverse};
+ghost use Rattle.zarrs_chunk_base.specs.ArraySubset.{IsEmptyBox};
+ghost use Rattle.zarrs_chunk_base.specs.Dimension.{array_sizes};
+ghost use Rattle.zarrs_chunk_base.specs.Refusal.{HasMemory, OrMemory};
+ghost use Rattle.zarrs_chunk_plan.specs.Region.{CanBeMoved, IsRegionFault};
+ghost use Rattle.zarrs_chunk_tasks.specs.Cheapest.{IsChoice, IsExactIfFew, IsOfNoTasks};
+ghost use Rattle.zarrs_chunk_tasks.specs.Counts.{greatest_of_128};
+
+use crate::choices::{Choice, cheapest_choice};
+use crate::counts::Copied;
+use crate::largest_chunk::largest_chunk;
+use crate::tried::tried_sizes;
+use std::alloc::Global;
+use std::num::NonZeroU64;
+use zarrs_chunk_base::{ArraySubset, Refusal};
+use zarrs_chunk_plan::{RegionError, moved_box};
+use zarrs_chunks::ChunkGridTraits;
+
+/// The choice of tasks that costs the least.
+#[derive(Debug)]
+pub struct CheapestTasks {
+    /// How many neighbouring chunks of the target a group joins, one number a dimension: what [`tasks`](crate::tasks) takes.
+    pub task_chunks: Vec<NonZeroU64>,
+    /// What the tasks cost, in elements: the elements of the chunks that they read, and what the reads are worth. 2^128 - 1 stands for all greater numbers too.
+    pub cost: u128,
+    /// Whether no choice costs less. It is `false` if not all choices were compared, or if the cost is too great to be told.
+    pub is_exact: bool,
+}
+
+/// Chooses the [`tasks`](crate::tasks) of the copy of a region that cost the least, under a bound of memory: the buffer of a task and the largest chunk that
+/// is read or written have together at most `max_elements` elements, each chunk whole. `None` if no tasks are that small.
+///
+/// A task costs the elements of the chunks that it reads, each whole, and `read_elements` for each of these chunks: what one read is worth, in elements. Of
+/// 2,500,000 elements of 4 bytes a read is worth ten megabytes, which is what a store gives while it waits for one request.
+///
+/// Along each dimension each number of chunks is tried up to 2^16, and from there on those that halve the number of groups. If that makes more than 2^24
+/// choices, some of these numbers are left out. Then `is_exact` is `false`.
+///
+/// It takes the time to count groups of each of these sizes, as [`task_counts`](crate::task_counts) does, and of some multiplications for each choice.
+///
+/// # Errors
+/// As of [`moved_box`]. Or out of memory.
+pub fn cheapest_tasks<G: ChunkGridTraits, H: ChunkGridTraits>(
+    alloc: Global,
+    source: &G,
+    target: &H,
+    region: &ArraySubset,
+    at: &[u64],
+    max_elements: u64,
+    read_elements: u64,
+) -> Result<Option<CheapestTasks>, Refusal<RegionError>>
+    ensures choice { (¬ IsEmptyBox region.now) → IfOk result (IsChoice (G.dimensions source.now)
+        (H.dimensions target.now) region.now at.now max_elements read_elements) }
+    ensures exact { (¬ IsEmptyBox region.now) → IfOk result (λ found. IfSome found
+        (IsExactIfFew (H.dimensions target.now) region.now at.now)) }
+    ensures empty { IsEmptyBox region.now → IfOk result (λ found. MatchOption found ⊥
+        (IsOfNoTasks (G.dimensions source.now))) }
+    ensures lies { IfOk result (λ _. CanBeMoved (array_sizes (G.dimensions source.now))
+        (array_sizes (H.dimensions target.now)) region.now at.now) }
+    ensures refused { IfErr result (OrMemory (IsRegionFault (array_sizes (G.dimensions source.now))
+        (array_sizes (H.dimensions target.now)) region.now at.now)) }
+    ensures faults_first { (¬ CanBeMoved (array_sizes (G.dimensions source.now))
+        (array_sizes (H.dimensions target.now)) region.now at.now) → HasMemory result }
+{
+    region.is_a_box();
+    let moved = moved_box(alloc, source, target, region, at)?;
+    moved.is_a_box();
+    let copied = Copied {
+        source,
+        first: region.start(),
+        target,
+        at,
+    };
+    let Some(tried) = tried_sizes(alloc, &copied, &moved)? else {
+        return Ok(Some(CheapestTasks {
+            task_chunks: vec![in alloc; NonZeroU64::MIN; at.len()]?,
+            cost: 0,
+            is_exact: true,
+        }));
+    };
+    let read = largest_chunk(alloc, source, region)?;
+    let written = largest_chunk(alloc, target, &moved)?;
+    let room = max_elements.saturating_sub(read.max(written));
+    let found = cheapest_choice(alloc, &tried.rows, room, read_elements, 1, 1, None)?;
+    Ok(outermost_first(found, tried.is_exact))
+}
+
+/// Returns the choice in the order of the dimensions.
+fn outermost_first(found: Option<Choice>, is_exact: bool) -> Option<CheapestTasks>
+    ensures none { found ≡ None → result ≡ None }
+    ensures some { IfSome found (λ choice. MatchOption result ⊥ (λ cheapest.
+        (cheapest.task_chunks.items ≡ reverse choice.each.items)
+        × (cheapest.cost ≡ choice.cost)
+        × (IsTrue cheapest.is_exact ↔ (IsTrue is_exact × (choice.cost < greatest_of_128))))) }
+{
+    let choice = found?;
+    let mut task_chunks = choice.each;
+    task_chunks.reverse();
+    Some(CheapestTasks {
+        task_chunks,
+        cost: choice.cost,
+        is_exact: is_exact && choice.cost < u128::MAX,
+    })
+}
