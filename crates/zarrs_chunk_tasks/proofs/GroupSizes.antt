@@ -1,6 +1,6 @@
 -- What groups of each number of chunks cost along one dimension.
-use Rattle.std.proofs.Common.{◌≡◌, ◌∙◌, ℕ, zero, suc, ◌+◌, ◌-◌, ◌*◌, ◌/◌, ◌<◌, ◌≤◌, ◌⊎◌, IsTrue, List, [], ◌∷◌, ◌++◌, Contains, fold, length, map, max, min, refl, ap, ap₂}
-use Rattle.std.proofs.Common.{subst, sym, ⊎_elim, arith, inl, inr, le-div_iff_mul-le}
+use Rattle.std.proofs.Common.{◌≡◌, ◌∙◌, ℕ, zero, suc, ◌+◌, ◌-◌, ◌*◌, ◌/◌, ◌<◌, ◌≤◌, List, [], ◌∷◌, ◌++◌, Contains, length, map, max, min, refl, ap, ap₂}
+use Rattle.std.proofs.Common.{subst, sym, ⊎_elim, arith, le-div_iff_mul-le}
 use Rattle.std.proofs.Math.Nat.{div-eq_of_lt, div-le_self, div-mul-le_self, lt-div-mul-add, mul-le-mul_right}
 use Rattle.std.proofs.lemmas.Bool.{cases_lt}
 use Rattle.std.specs.List.{AllByRecursion, range_with_len, sum}
@@ -16,9 +16,9 @@ use Rattle.zarrs_chunk_tasks.specs.declared.sizes.Size.{Size}
 use Rattle.zarrs_chunk_tasks.specs.seen.Counts.{AreOver, AreSums, AreTaking, indices, of_group, whole}
 use Rattle.zarrs_chunk_tasks.specs.seen.Grouped.{grouped}
 use Rattle.zarrs_chunk_tasks.specs.Cheapest.{most_sizes}
-use Rattle.zarrs_chunk_tasks.specs.seen.Sizes.{AreSizes, AreSizesTo, Beats, IsBeaten, IsNoWorse, IsSize, Keeps, Side, StartsWithLeast, by_groups, each_of, groups_met, largest_by}
+use Rattle.zarrs_chunk_tasks.specs.seen.Sizes.{AreSizes, AreSizesTo, Beats, IsBeaten, IsSize, Keeps, Side, StartsWithLeast, by_groups, each_of, groups_met, largest_by}
 use Rattle.zarrs_chunk_tasks.proofs.CountsOfEach.{Count}
-use Rattle.zarrs_chunk_tasks.proofs.GroupBoxes.{Reaches, first_in, last_in, reaching}
+use Rattle.zarrs_chunk_tasks.proofs.GroupBoxes.{first_in, last_in, reaching}
 use Rattle.zarrs_chunk_tasks.proofs.Grouped.{grouped_chain, last, last_in_group}
 
 -- ---- the greatest of some numbers

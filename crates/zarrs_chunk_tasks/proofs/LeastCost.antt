@@ -1,7 +1,7 @@
 -- The cheapest choice of one size a dimension gives the cheapest tasks.
-use Rattle.std.proofs.Common.{◌≡◌, ◌∙◌, ℕ, zero, suc, ◌+◌, ◌*◌, ◌<◌, ◌≤◌, ◌⊎◌, List, [], ◌∷◌, Contains, fold, length, map, max, refl, ap, ap₂, sym, arith, subst, ⊎_elim}
+use Rattle.std.proofs.Common.{◌≡◌, ℕ, zero, suc, ◌+◌, ◌*◌, ◌<◌, ◌≤◌, List, [], ◌∷◌, Contains, length, map, max, refl, ap, ap₂, sym, arith, subst, ⊎_elim}
 use Rattle.std.proofs.lemmas.List.Sums.{sum_by-cons}
-use Rattle.std.proofs.Math.Nat.{add-mul, mul_comm}
+use Rattle.std.proofs.Math.Nat.{add-mul}
 use Rattle.std.specs.List.{AllByRecursion, AllZip, sum}
 use Rattle.std.proofs.lemmas.Bool.{cases_lt}
 use Rattle.zarrs_chunk_plan.specs.Counts.{product}
@@ -11,7 +11,7 @@ use Rattle.zarrs_chunk_tasks.specs.Counts.{in_all}
 use Rattle.zarrs_chunk_tasks.specs.declared.counts.CountsAlong.{CountsAlong}
 use Rattle.zarrs_chunk_tasks.specs.declared.sizes.Size.{Size}
 use Rattle.zarrs_chunk_tasks.specs.declared.task.Task.{Task}
-use Rattle.zarrs_chunk_tasks.specs.seen.Choices.{IsChoice, cost_of, held}
+use Rattle.zarrs_chunk_tasks.specs.seen.Choices.{IsChoice, held}
 use Rattle.zarrs_chunk_tasks.specs.seen.Sizes.{AreSizes, AreTried, IsSize, Side, all_counts, each_of}
 
 -- ---- products

@@ -1,4 +1,5 @@
 mod CheapestChoices
+mod ChosenTasks
 mod CountsOfEach
 mod GroupBoxes
 mod GroupCounts

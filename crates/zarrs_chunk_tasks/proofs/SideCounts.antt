@@ -1,5 +1,5 @@
 -- The counts of tasks by groups of any size, a dimension after another.
-use Rattle.std.proofs.Common.{◌≡◌, ◌∙◌, ℕ, suc, ◌+◌, ◌-◌, ◌/◌, ◌<◌, ◌≤◌, List, [], ◌∷◌, Contains, length, map, min, refl, ap, ap₂, sym, take, arith}
+use Rattle.std.proofs.Common.{◌≡◌, ◌∙◌, ℕ, suc, ◌+◌, ◌-◌, ◌/◌, List, [], ◌∷◌, Contains, length, map, min, refl, ap, ap₂, sym, take, arith}
 use Rattle.std.proofs.Math.Nat.{div-le_self}
 use Rattle.std.proofs.lemmas.List.{length-map, take_all}
 use Rattle.std.specs.Int.NonZero.{non_zero_u64_get}
@@ -12,16 +12,15 @@ use Rattle.zarrs_chunks.proofs.Covers.{head_some, tail_some}
 use Rattle.zarrs_chunks.specs.Subsets.{IsCover}
 use Rattle.zarrs_chunk_plan.specs.Region.{EndWithin, LiesIn}
 use Rattle.zarrs_chunk_plan.specs.seen.Sources.{met, met_in}
-use Rattle.zarrs_chunk_plan.proofs.MovedBoxes.{within_long, within_starts}
 use Rattle.zarrs_chunk_plan.proofs.Products.{greatest_of}
 use Rattle.zarrs_chunk_tasks.specs.declared.counts.CountsAlong.{CountsAlong}
-use Rattle.zarrs_chunk_tasks.specs.seen.Counts.{AreCopied, AreGroupCounts, indices, of_groups, of_groups_each, whole}
+use Rattle.zarrs_chunk_tasks.specs.seen.Counts.{AreGroupCounts, indices, of_groups, of_groups_each, whole}
 use Rattle.zarrs_chunk_tasks.specs.seen.GroupNumbers.{counts_to, groups_of}
 use Rattle.zarrs_chunk_tasks.specs.seen.Grouped.{grouped}
 use Rattle.zarrs_chunk_tasks.specs.seen.Sizes.{IsSide, Side, all_counts, counts_by, groups_met, sides}
 use Rattle.zarrs_chunk_tasks.proofs.CountsOfEach.{Count}
-use Rattle.zarrs_chunk_tasks.proofs.GroupBoxes.{AreOver, AsMany, as_many_each, fewer, groups, groups_from, groups_named, is_group_cover, numbers, over}
-use Rattle.zarrs_chunk_tasks.proofs.GroupCounts.{RowsSoFar, rows_are}
+use Rattle.zarrs_chunk_tasks.proofs.GroupBoxes.{AreOver, AsMany, as_many_each, groups, groups_from, groups_named, is_group_cover, numbers, over}
+use Rattle.zarrs_chunk_tasks.proofs.GroupCounts.{rows_are}
 use Rattle.zarrs_chunk_tasks.proofs.GroupSizes.{chunk_small}
 use Rattle.zarrs_chunk_tasks.proofs.Grouped.{as_many_grouped}
 
@@ -74,6 +73,12 @@ sides_are (s ∷ source) (t ∷ target) (f ∷ first) (a ∷ at) (n ∷ shape) (
     }
 sides_are _ _ _ _ _ _ _ many =
     absurd (omega (arith, many.source_many, many.first_many, many.at_many, many.shape_many, many.low_many, many.high_many))
+
+pub as_many_sides : (source target : List Dimension) (first at shape low high : List ℕ) → AreAsMany source target first at shape low high
+    → length (sides source target first at shape low high) ≡ length target
+as_many_sides source target first at shape low high many =
+    sym (length-map (sides source target first at shape low high) (λ (side : Side). side.target))
+    ∙ ap length (sides_are source target first at shape low high many).targets
 
 pub all_sides : (source target : List Dimension) (first at shape low high : List ℕ) → AllByRecursion IsChain target → AreAsMany source target first at shape low high
     → (¬ Contains shape 0) → AllFit (ends at shape) → EndWithin at shape (array_sizes target) → AreOver target at shape low high
@@ -162,7 +167,7 @@ module _ (source target : List Dimension) (each : List NonZeroU64) (elements cov
       (over target each chains many elements cover is_box is)
 
   pub sides_many : length all ≡ length target
-  sides_many = sym (length-map all (λ (side : Side). side.target)) ∙ ap length lists.targets
+  sides_many = as_many_sides source target first elements.start elements.shape cover.start (lasts cover.start cover.shape) lists_many
 
   each_many : length each ≡ length all
   each_many = many ∙ sym sides_many
@@ -198,9 +203,8 @@ module _ (source target : List Dimension) (each : List NonZeroU64) (elements cov
         long =
             sym (length-map (table count others begin) op) ∙ ap length (sym are) ∙ length-map (all_counts all (numbers each)) field ∙ counts_long
 
-  pub group_counts : IsBox (record { start = first; shape = elements.shape }) → EndWithin first elements.shape (array_sizes source)
-      → AreGroupCounts source target target (numbers each) elements first elements.start (all_counts all (numbers each))
-  group_counts first_is_box first_lies =
+  pub group_counts : AreGroupCounts source target target (numbers each) elements first elements.start (all_counts all (numbers each))
+  group_counts =
       rows_are source target target each elements box first elements.start (record {
         source_long = source_many;
         target_long = refl;

@@ -1,23 +1,27 @@
 -- The sizes that are tried along each dimension.
-use Rattle.std.proofs.Common.{◌≡◌, ◌∙◌, ℕ, zero, suc, ◌+◌, ◌-◌, ◌*◌, ◌<◌, ◌≤◌, List, [], ◌∷◌, ◌++◌, Contains, length, map, min, refl, ap, ap₂, subst, sym, slice_index_or, take, arith, ⊎_elim}
-use Rattle.std.proofs.lemmas.List.Elements.{Contains-append_cases, Contains-append_left}
+use Rattle.std.proofs.Common.{◌≡◌, ◌∙◌, ℕ, zero, suc, ◌+◌, ◌*◌, ◌<◌, ◌≤◌, List, [], ◌∷◌, ◌++◌, Contains, length, map, min, refl, ap, ap₂, subst, sym, slice_index_or, take, arith, ⊎_elim, IsTrue, ◌↔◌}
+use Rattle.std.proofs.lemmas.List.Elements.{Contains-append_cases}
 use Rattle.std.proofs.lemmas.List.{map-append, take_more}
 use Rattle.std.proofs.Common.{Vec, Global}
 use Rattle.std.specs.List.{AllByRecursion, AllZip}
-use Rattle.zarrs_chunk_base.specs.ArraySubset.{ends, lasts}
+use Rattle.zarrs_chunk_base.specs.ArraySubset.{Box, IsEmptyBox, ends, lasts}
 use Rattle.zarrs_chunk_base.specs.Dimension.{Dimension}
 use Rattle.zarrs_chunk_base.specs.Greatest.{greatest}
 use Rattle.zarrs_chunk_axes.specs.Along.{Along}
 use Rattle.zarrs_chunks.proofs.Covers.{head_some, tail_some}
 use Rattle.zarrs_chunk_plan.specs.Counts.{product}
-use Rattle.zarrs_chunk_tasks.specs.Cheapest.{most_sizes}
+use Rattle.zarrs_chunks.specs.Subsets.{IsCover}
+use Rattle.zarrs_chunk_tasks.specs.Cheapest.{most_choices, most_sizes}
+use Rattle.zarrs_chunk_tasks.specs.declared.counts.Grouped.{Grouped}
+use Rattle.zarrs_chunk_tasks.specs.declared.tried.Tried.{Tried}
 use Rattle.zarrs_chunk_tasks.specs.declared.sizes.Size.{Size}
 use Rattle.zarrs_chunk_tasks.specs.seen.Choices.{rows_of}
 use Rattle.zarrs_chunk_tasks.specs.seen.Sizes.{AreSizes, AreTried, IsSize, Side, sides}
-use Rattle.zarrs_chunk_tasks.specs.seen.Tried.{IsPart}
+use Rattle.zarrs_chunk_tasks.specs.seen.Tried.{AreTriedOver, IsPart}
+use Rattle.zarrs_chunk_tasks.specs.seen.Counts.{AreGrouped}
 use Rattle.zarrs_chunk_tasks.proofs.LargestChunk.{capped, product_more}
 use Rattle.zarrs_chunk_tasks.proofs.LeastCost.{all_has, times}
-use Rattle.zarrs_chunk_tasks.proofs.SideCounts.{AreAsMany, fewer_lists}
+use Rattle.zarrs_chunk_tasks.proofs.SideCounts.{AreAsMany, as_many_sides, fewer_lists}
 
 -- ---- fewer sizes
 
@@ -105,6 +109,23 @@ are_tried (side ∷ all) (row ∷ rows) are = (record { are = are.0.are; least =
 are_tried [] (_ ∷ _) are = absurd are
 are_tried (_ ∷ _) [] are = absurd are
 
+some_sizes : (side : Side) (row : List Size) → AllByRecursion (IsSize side) row → AllByRecursion (λ (s : Size). 0 < s.largest) row
+some_sizes side [] all = tt
+some_sizes side (s ∷ row) all = (all.0.some, some_sizes side row all.1)
+
+pub some_rows : (all : List Side) (rows : List (List Size)) → AllZip AreTried all rows
+    → AllByRecursion (AllByRecursion (λ (s : Size). 0 < s.largest)) rows
+some_rows [] [] are = tt
+some_rows (side ∷ all) (row ∷ rows) are = (some_sizes side row are.0.are, some_rows all rows are.1)
+some_rows [] (_ ∷ _) are = absurd are
+some_rows (_ ∷ _) [] are = absurd are
+
+pub few_sides : (source target : List Dimension) (first at shape low high : List ℕ) → AllByRecursion (λ n. n < most_sizes) high
+    → AllByRecursion (λ (side : Side). side.high < most_sizes) (sides source target first at shape low high)
+few_sides (s ∷ source) (t ∷ target) (f ∷ first) (a ∷ at) (n ∷ shape) (l ∷ low) (h ∷ high) few =
+    (few.0, few_sides source target first at shape low high few.1)
+few_sides _ _ _ _ _ _ _ few = tt
+
 -- where each number of chunks is tried, there are no more sizes than chunks up to the last ones
 pub lasts_few : (start shape : List ℕ) → (¬ Contains shape 0) → AllByRecursion (λ n. n ≤ most_sizes) (ends start shape)
     → AllByRecursion (λ n. n < most_sizes) (lasts start shape)
@@ -184,3 +205,62 @@ pub parts_more : (rows : List (Vec Size Global)) (k : ℕ) (row part : Vec Size 
 parts_more rows k row part parts after within is so_far here put =
     rw (more_rows rows k row within is, ap rows_of put, map-append (λ (r : Vec Size Global). r.items) parts (part ∷ []))
     (zip_more IsPart (rows_of (take k rows)) (rows_of parts) row.items part.items so_far here)
+
+-- ---- the lists of some groups
+
+pub grouped_many : {K : Type 0} (dimensions : K → List Dimension) (source target : List Dimension) (first at : List ℕ) (groups : Grouped K)
+    → AreGrouped dimensions source target first at groups
+    → AreAsMany source target first groups.elements.now.start groups.elements.now.shape groups.cover.now.start groups.last.now
+grouped_many dimensions source target first at groups are =
+    let long = are.long in
+    record {
+      source_many = omega (arith, long.source_long, long.target_long);
+      first_many = omega (arith, long.first_long, long.target_long);
+      at_many = omega (arith, long.start_long, long.target_long);
+      shape_many = omega (arith, long.shape_long, long.target_long);
+      low_many = omega (arith, are.cover_long, long.target_long);
+      high_many = omega (arith, are.last_long, long.target_long);
+    }
+
+-- ---- what is tried
+
+module _ (source target : List Dimension) (first : List ℕ) (elements cover : Box) (rows : List (Vec Size Global)) (some : ¬ IsEmptyBox elements)
+    (is : IsCover target elements cover)
+    (many : AreAsMany source target first elements.start elements.shape cover.start (lasts cover.start cover.shape))
+    (are : AllZip AreSizes (sides source target first elements.start elements.shape cover.start (lasts cover.start cover.shape)) (rows_of rows)) where
+  few_rows : AllByRecursion (λ n. n ≤ most_sizes) (ends cover.start cover.shape) → product (map length (rows_of rows)) ≤ product (ends cover.start cover.shape)
+  few_rows few =
+      few_choices source target first elements.start elements.shape cover.start cover.shape (rows_of rows) many (sym is.is_box.lengths) are is.some few
+
+  -- all sizes are tried
+  pub all_are_tried : (tried : Tried) → tried.rows.items ≡ rows → IsTrue tried.is_exact ↔ AllByRecursion (λ n. n < most_sizes) (lasts cover.start cover.shape)
+      → AreTriedOver source target first elements tried
+  all_are_tried tried same exact =
+      let all = sides source target first elements.start elements.shape cover.start (lasts cover.start cover.shape) in
+      record {
+        some = some;
+        cover = cover;
+        is_cover = is;
+        long = as_many_sides source target first elements.start elements.shape cover.start (lasts cover.start cover.shape) many;
+        are_tried = rw same (are_tried all (rows_of rows) are);
+        all = λ _. rw same are;
+        all_few = λ is_exact. exact.0 is_exact;
+        few = λ few _. exact.1 (lasts_few cover.start cover.shape is.some few);
+      }
+
+  -- some of them are, since the choices are too many
+  pub some_are_tried : (parts : List (Vec Size Global)) (tried : Tried) → AllZip IsPart (rows_of rows) (rows_of parts) → tried.rows.items ≡ parts
+      → (choices : ℕ) → choices ≡ min greatest (product (map length (rows_of rows))) → most_choices < choices → (¬ IsTrue tried.is_exact)
+      → AreTriedOver source target first elements tried
+  some_are_tried parts tried are_parts same choices choices_are more not =
+      let all = sides source target first elements.start elements.shape cover.start (lasts cover.start cover.shape) in
+      record {
+        some = some;
+        cover = cover;
+        is_cover = is;
+        long = as_many_sides source target first elements.start elements.shape cover.start (lasts cover.start cover.shape) many;
+        are_tried = rw same (parts_are_tried all (rows_of rows) (rows_of parts) (are_tried all (rows_of rows) are) are_parts);
+        all = λ is_exact. absurd (not is_exact);
+        all_few = λ is_exact. absurd (not is_exact);
+        few = λ few up_to. absurd (omega (arith, choices_are, more, few_rows few, up_to));
+      }

@@ -1,5 +1,5 @@
 -- The sizes that are tried along each dimension.
-use Rattle.std.specs.Prelude.{◌≡◌, ℕ, ◌<◌, ◌≤◌, IsTrue, List, ◌∷◌}
+use Rattle.std.specs.Prelude.{◌≡◌, ℕ, ◌<◌, ◌≤◌, IsTrue, List, ◌∷◌, length}
 use Rattle.std.specs.List.{AllByRecursion, AllZip, Contains}
 use Rattle.zarrs_chunk_base.specs.ArraySubset.{Box, IsEmptyBox, ends, lasts}
 use Rattle.zarrs_chunk_base.specs.Dimension.{Dimension}
@@ -9,7 +9,7 @@ use Rattle.zarrs_chunk_tasks.specs.Cheapest.{most_choices, most_sizes}
 use Rattle.zarrs_chunk_tasks.specs.declared.sizes.Size.{Size}
 use Rattle.zarrs_chunk_tasks.specs.declared.tried.Tried.{Tried}
 use Rattle.zarrs_chunk_tasks.specs.seen.Choices.{rows_of}
-use Rattle.zarrs_chunk_tasks.specs.seen.Sizes.{AreSizes, AreTried, Side, sides}
+use Rattle.zarrs_chunk_tasks.specs.seen.Sizes.{AreSizes, AreTried, sides}
 
 -- some of a row of sizes, and its first one, if it has one
 pub record IsPart (row part : List Size) : Type 0 where
@@ -21,6 +21,7 @@ pub record AreTriedOver (source target : List Dimension) (first : List ℕ) (ele
   pub some : ¬ IsEmptyBox elements
   pub cover : Box
   pub is_cover : IsCover target elements cover
+  pub long : length (sides source target first elements.start elements.shape cover.start (lasts cover.start cover.shape)) ≡ length target
   pub are_tried : AllZip AreTried (sides source target first elements.start elements.shape cover.start (lasts cover.start cover.shape)) (rows_of tried.rows.items)
   pub all : IsTrue tried.is_exact
       → AllZip AreSizes (sides source target first elements.start elements.shape cover.start (lasts cover.start cover.shape)) (rows_of tried.rows.items)

@@ -1,7 +1,3 @@
-use Rattle.zarrs_chunk_tasks.proofs.TriedSizes.{parts_more}
-use Rattle.zarrs_chunk_tasks.proofs.TriedSizes.{rows_more}
-use Rattle.zarrs_chunk_tasks.proofs.SideCounts.{sides_are}
-use Rattle.zarrs_chunk_tasks.proofs.LeastCost.{has_counts}
 use Rattle.std.proofs.Common.{sym}
 use Rattle.zarrs_chunk_tasks.proofs.sizes.is_beaten.Goals as goal
 

@@ -1,22 +1,44 @@
-use Rattle.std.proofs.Common.{rules, ◌≡◌, ◌≤◌, ◌<◌, ◌↔◌, IfOk, IfSome, IfNone, IsTrue, length, map, min, ℕ, ◌+◌, ◌-◌, ◌*◌, ◌/◌, ◌%◌, Bool, true, false, nat_eq, nat_lt, List, [], ◌∷◌, ◌++◌, slice_index_or, slice_set, bit_and, bit_or, Fits, w8, w32, w64, Bor, MutBor}
-use Rattle.std.specs.List.{AllByRecursion, AllZip}
-use Rattle.zarrs_chunk_base.specs.ArraySubset.{IsEmptyBox, lasts}
-use Rattle.zarrs_chunk_base.specs.Dimension.{array_sizes}
-use Rattle.zarrs_chunk_base.specs.Greatest.{greatest}
-use Rattle.zarrs_chunks.specs.Subsets.{IsCover}
-use Rattle.zarrs_chunk_plan.specs.Counts.{product}
-use Rattle.zarrs_chunk_plan.specs.Region.{LiesIn}
-use Rattle.zarrs_chunk_tasks.specs.Cheapest.{most_sizes}
-use Rattle.zarrs_chunk_tasks.specs.seen.Choices.{rows_of}
-use Rattle.zarrs_chunk_tasks.specs.seen.Counts.{AreCopied, AreGrouped}
+use Rattle.std.proofs.Common.{◌∷◌, [], ◌<◌, Vec, Global, arith, length, take_all}
+use Rattle.std.proofs.lemmas.List.{map-append}
+use Rattle.zarrs_chunk_tasks.specs.declared.sizes.Size.{Size}
 use Rattle.zarrs_chunk_tasks.specs.seen.Sizes.{AreSizes, sides}
-use Rattle.zarrs_chunk_tasks.specs.seen.Tried.{AreTriedOver, IsPart}
+use Rattle.zarrs_chunk_tasks.proofs.SideCounts.{as_many_sides}
+use Rattle.zarrs_chunk_tasks.proofs.TriedSizes.{grouped_many, rows_more}
 use Rattle.zarrs_chunk_tasks.proofs.tried.all_sizes.Goals as goal
 
--- src/tried.rt:127:5
 pub loop-dimension-preserved : goal.loop-dimension-preserved
-loop-dimension-preserved g c = ?
+loop-dimension-preserved g c =
+    let copied = c.args.copied.now in
+    let grouped = c.args.grouped.now in
+    let source = g.G.ChunkGridTraits.dimensions copied.source.now in
+    let target = g.H.ChunkGridTraits.dimensions copied.target.now in
+    let k = c.loop-dimension.dimension in
+    let many = grouped_many g.H.ChunkGridTraits.dimensions source target copied.first.now grouped.elements.now.start grouped c.requires.grouped in
+    let long = c.requires.grouped.long in
+    let within : k < length target = omega (arith, c.loop-dimension-test.true, long.each_long, long.target_long) in
+    let here =
+    rw (
+      c.start.ensures.value,
+      c.shape.ensures.value,
+      c.start-in-loop-dimension.ensures.value,
+      c.requires.same,
+    ) at (c.in_ok-sizes_along.ensures {u = tt})
+    in
+    rw ((c.in_ok-push.ensures {u = tt}).items, map-append (λ (row : Vec Size Global). row.items) c.loop-dimension.rows.items (c.in_ok-sizes_along.field-0 ∷ []))
+    (rows_more AreSizes source target copied.first.now grouped.elements.now.start grouped.elements.now.shape grouped.cover.now.start grouped.last.now k _ _ many
+    within c.loop-dimension.invariant here)
 
--- src/tried.rt:110:1
 pub returns : goal.returns
-returns g c = ?
+returns g c =
+    let copied = c.args.copied.now in
+    let grouped = c.args.grouped.now in
+    let source = g.G.ChunkGridTraits.dimensions copied.source.now in
+    let target = g.H.ChunkGridTraits.dimensions copied.target.now in
+    let many = grouped_many g.H.ChunkGridTraits.dimensions source target copied.first.now grouped.elements.now.start grouped c.requires.grouped in
+    let long = c.requires.grouped.long in
+    let all = sides source target copied.first.now grouped.elements.now.start grouped.elements.now.shape grouped.cover.now.start grouped.last.now in
+    let whole = take_all c.loop-dimension.dimension all
+    (omega (arith, c.loop-dimension-test.false, long.each_long, long.target_long,
+    as_many_sides source target copied.first.now grouped.elements.now.start grouped.elements.now.shape grouped.cover.now.start grouped.last.now many))
+    in
+    rw whole at c.loop-dimension.invariant

@@ -1,5 +1,4 @@
-use Rattle.std.proofs.Common.{◌≡◌, ◌*◌, ap, arith, refl, take, take_all, min}
-use Rattle.zarrs_chunk_base.specs.Greatest.{greatest}
+use Rattle.std.proofs.Common.{arith, refl, take_all}
 use Rattle.zarrs_chunk_tasks.proofs.TriedSizes.{choices_more}
 use Rattle.zarrs_chunk_tasks.proofs.tried.choices_of.Goals as goal
 

@@ -1,22 +1,28 @@
-use Rattle.std.proofs.Common.{rules, ◌≡◌, ◌≤◌, ◌<◌, ◌↔◌, IfOk, IfSome, IfNone, IsTrue, length, map, min, ℕ, ◌+◌, ◌-◌, ◌*◌, ◌/◌, ◌%◌, Bool, true, false, nat_eq, nat_lt, List, [], ◌∷◌, ◌++◌, slice_index_or, slice_set, bit_and, bit_or, Fits, w8, w32, w64, Bor, MutBor}
-use Rattle.std.specs.List.{AllByRecursion, AllZip}
-use Rattle.zarrs_chunk_base.specs.ArraySubset.{IsEmptyBox, lasts}
-use Rattle.zarrs_chunk_base.specs.Dimension.{array_sizes}
-use Rattle.zarrs_chunk_base.specs.Greatest.{greatest}
-use Rattle.zarrs_chunks.specs.Subsets.{IsCover}
-use Rattle.zarrs_chunk_plan.specs.Counts.{product}
-use Rattle.zarrs_chunk_plan.specs.Region.{LiesIn}
-use Rattle.zarrs_chunk_tasks.specs.Cheapest.{most_sizes}
-use Rattle.zarrs_chunk_tasks.specs.seen.Choices.{rows_of}
-use Rattle.zarrs_chunk_tasks.specs.seen.Counts.{AreCopied, AreGrouped}
-use Rattle.zarrs_chunk_tasks.specs.seen.Sizes.{AreSizes, sides}
-use Rattle.zarrs_chunk_tasks.specs.seen.Tried.{AreTriedOver, IsPart}
+use Rattle.std.proofs.Common.{refl, sym}
+use Rattle.std.proofs.lemmas.Bool.{true≢false}
+use Rattle.zarrs_chunk_tasks.proofs.TriedSizes.{all_are_tried, grouped_many, some_are_tried}
 use Rattle.zarrs_chunk_tasks.proofs.tried.sizes_of_groups.Goals as goal
 
--- src/tried.rt:97:9
 pub returns-then-choices_of-gt-MOST_CHOICES : goal.returns-then-choices_of-gt-MOST_CHOICES
-returns-then-choices_of-gt-MOST_CHOICES g c = ?
+returns-then-choices_of-gt-MOST_CHOICES g c =
+    let copied = c.args.copied.now in
+    let grouped = c.args.grouped.now in
+    let source = g.G.ChunkGridTraits.dimensions copied.source.now in
+    let target = g.H.ChunkGridTraits.dimensions copied.target.now in
+    let last = c.requires.last in
+    let many = grouped_many g.H.ChunkGridTraits.dimensions source target copied.first.now grouped.elements.now.start grouped c.requires.grouped in
+    some_are_tried source target copied.first.now grouped.elements.now grouped.cover.now c.in_ok-rows.rows.items c.requires.grouped.some c.requires.cover
+    (rw last at many) (rw last at (c.in_ok-rows.ensures {u = tt})) c.in_ok-thinned.field-0.items _
+    (rw c.deref-then-choices_of-gt-MOST_CHOICES.ensures.value at (c.in_ok-thinned.ensures {u = tt})) refl c.choices_of.result
+    (rw c.deref.ensures.value at c.choices_of.ensures) c.if-choices_of-gt-MOST_CHOICES.true (λ is_exact. true≢false (sym is_exact))
 
--- src/tried.rt:79:1
 pub returns : goal.returns
-returns g c = ?
+returns g c =
+    let copied = c.args.copied.now in
+    let grouped = c.args.grouped.now in
+    let source = g.G.ChunkGridTraits.dimensions copied.source.now in
+    let target = g.H.ChunkGridTraits.dimensions copied.target.now in
+    let last = c.requires.last in
+    let many = grouped_many g.H.ChunkGridTraits.dimensions source target copied.first.now grouped.elements.now.start grouped c.requires.grouped in
+    all_are_tried source target copied.first.now grouped.elements.now grouped.cover.now c.in_ok-rows.rows.items c.requires.grouped.some c.requires.cover
+    (rw last at many) (rw last at (c.in_ok-rows.ensures {u = tt})) _ refl (rw last at c.are_few-is_exact.ensures)
