@@ -111,7 +111,7 @@ module _ (source target : List Dimension) (region : Box) (at : List ℕ) (can : 
     module _ (found : Choice) (chosen : CheapestTasks) (it : IsCheapestChoice rows room worth 1 1 None (map non_zero_u64_get found.each.items) found.cost)
         (each_is : chosen.task_chunks.items ≡ reverse found.each.items) (cost_is : chosen.cost ≡ found.cost)
         (exact : IsTrue chosen.is_exact
-        → AllZip AreSizes all rows × AllByRecursion (λ (side : Side). side.high < most_sizes) all × (found.cost < greatest_of_128)) where
+        → AllZip AreSizes all rows × AllByRecursion (λ (side : Side). side.high < most_sizes) all) where
       abbrev each_chosen : List NonZeroU64
       each_chosen = chosen.task_chunks.items
 
@@ -145,7 +145,7 @@ module _ (source target : List Dimension) (region : Box) (at : List ℕ) (can : 
 
       none_cheaper : IsTrue chosen.is_exact → NoneIsCheaper source target region at largest most worth chosen.cost
       none_cheaper is_exact each many tasks are fit =
-          let (rows_are, few, _) = exact is_exact in
+          let (rows_are, few) = exact is_exact in
           let along = all_counts all (numbers each) in
           let best = better all rows (numbers each) rows_are few (some_chunks each) (length-map each non_zero_u64_get ∙ many ∙ same_many ∙ sym all_many) in
           let any = (sizes_of best.choice best.is_choice).some in
@@ -164,7 +164,6 @@ module _ (source target : List Dimension) (region : Box) (at : List ℕ) (can : 
             hold each_chosen chosen_long tasks are largest most
             (subst (λ n. n + largest ≤ most) (sym longest_is) ((fits_room (held it.choice) has_sizes.some).0 it.fits));
         costs = λ tasks are. (cost_by worth (all_counts all (numbers each_chosen)), costs each_chosen chosen_long tasks are worth, told_cost);
-        told = λ is_exact. let (_, _, less) = exact is_exact in omega (arith, cost_is, less);
         cheapest = none_cheaper;
       }
 
@@ -173,15 +172,14 @@ module _ (source target : List Dimension) (region : Box) (at : List ℕ) (can : 
         → (found ≡ None → chosen ≡ None)
         → IfSome found (λ choice. MatchOption chosen ⊥ (λ (cheapest : CheapestTasks).
         (cheapest.task_chunks.items ≡ reverse choice.each.items) × (cheapest.cost ≡ choice.cost)
-        × (IsTrue cheapest.is_exact ↔ (IsTrue tried_all × (choice.cost < greatest_of_128)))))
+        × (cheapest.is_exact ≡ tried_all)))
         → (IsTrue tried_all → AllZip AreSizes all rows × AllByRecursion (λ (side : Side). side.high < most_sizes) all)
         → MatchOption chosen (NoneFits source target region at largest most worth) (IsChosen source target region at largest most worth)
     choice_is None None tried_all finds none put exact = none_fits (λ choice chosen fits. finds choice chosen fits tt)
     choice_is None (Some chosen) tried_all finds none put exact = absurd (is_some (none refl))
     choice_is (Some found) None tried_all finds none put exact = absurd put
     choice_is (Some found) (Some chosen) tried_all finds none (each_is, cost_is, is_exact) exact =
-        chosen_is found chosen finds each_is cost_is
-        (λ told. let (all_tried, less) = is_exact.0 told in let (sizes, few) = exact all_tried in (sizes, few, less))
+        chosen_is found chosen finds each_is cost_is (λ told. exact (subst IsTrue is_exact told))
 
 -- a buffer fits in the room if it does so together with the larger chunk
 pub fits_in_room : (most read written read_told written_told room : ℕ) → most ≤ greatest → read_told ≡ min greatest read → written_told ≡ min greatest written
@@ -196,14 +194,14 @@ pub exact_if_few : (target : List Dimension) (region : Box) (at : List ℕ) → 
     (tried_all : Bool) → (found ≡ None → chosen ≡ None)
     → IfSome found (λ choice. MatchOption chosen ⊥ (λ (cheapest : CheapestTasks).
     (cheapest.task_chunks.items ≡ reverse choice.each.items) × (cheapest.cost ≡ choice.cost)
-    × (IsTrue cheapest.is_exact ↔ (IsTrue tried_all × (choice.cost < greatest_of_128)))))
+    × (cheapest.is_exact ≡ tried_all)))
     → (AllByRecursion (λ n. n ≤ most_sizes) (ends cover.start cover.shape) → product (ends cover.start cover.shape) ≤ most_choices → IsTrue tried_all)
     → IfSome chosen (IsExactIfFew target region at)
 exact_if_few target region at chains is_moved some cover is None None tried_all none put few = tt
 exact_if_few target region at chains is_moved some cover is None (Some chosen) tried_all none put few = absurd (is_some (none refl))
 exact_if_few target region at chains is_moved some cover is (Some found) None tried_all none put few = absurd put
-exact_if_few target region at chains is_moved some cover is (Some found) (Some chosen) tried_all none (_, cost_is, is_exact) few = record {
+exact_if_few target region at chains is_moved some cover is (Some found) (Some chosen) tried_all none (_, _, is_exact) few = record {
   cover = cover;
   is_cover = covers_some target (moved at region) cover chains is_moved some is;
-  exact = λ all_few up_to less. is_exact.1 (few all_few up_to, omega (arith, cost_is, less));
+  exact = λ all_few up_to. subst IsTrue (sym is_exact) (few all_few up_to);
 }

@@ -24,9 +24,9 @@ use Rattle.zarrs_chunk_plan.proofs.Products.{greatest_of, greatest_of_products, 
 use Rattle.zarrs_chunk_plan.proofs.TakenBoxes.{AllTakeSome, meets_take}
 use Rattle.zarrs_chunk_tasks.specs.Counts.{AreNone}
 use Rattle.zarrs_chunk_tasks.specs.declared.counts.CountsAlong.{CountsAlong}
-use Rattle.zarrs_chunk_tasks.specs.declared.counts.Grouped.{Grouped}
+use Rattle.zarrs_chunk_tasks.specs.declared.copied.Grouped.{Grouped}
 use Rattle.zarrs_chunk_tasks.specs.declared.groups_along.Sums.{Sums}
-use Rattle.zarrs_chunk_tasks.specs.seen.Counts.{AreCopied, AreGroupCounts, AreGrouped, AreLong, AreSums, AreTaking, indices, of_each_group, of_groups, of_groups_each, whole}
+use Rattle.zarrs_chunk_tasks.specs.seen.Counts.{AreCopied, AreGroupCounts, AreGrouped, AreLists, AreLong, AreSums, AreTaking, IsGrouped, indices, of_each_group, of_groups, of_groups_each, whole}
 use Rattle.zarrs_chunk_tasks.specs.seen.Grouped.{all_grouped, grouped}
 use Rattle.zarrs_chunk_tasks.specs.seen.Tasks.{AreGroups}
 use Rattle.zarrs_chunk_tasks.specs.seen.GroupNumbers.{groups_of}
@@ -78,6 +78,12 @@ row_of count R (d ∷ ds) (s ∷ others) (k ∷ each) (f ∷ first) (a ∷ start
     row_of count R ds others each first start shape group groups_ any j (omega arith) (omega arith) (omega arith) (omega arith) (omega arith) (omega arith)
     (omega arith) is
 row_of count R _ _ _ _ _ _ _ _ any k e1 e2 e3 e4 e5 e6 e7 is = absurd (first_of (assumption, omega arith))
+
+-- sums of the same groups
+pub same_sums : {k at size group many k_also at_also size_also group_also many_also first : ℕ} {d other : Dimension} {sums : Sums} → k ≡ k_also → at ≡ at_also
+    → size ≡ size_also → group ≡ group_also → many ≡ many_also → AreSums k at size group many first d other sums
+    → AreSums k_also at_also size_also group_also many_also first d other sums
+same_sums each at size group many are = rw (each, at, size, group, many) at are
 
 map_more : (f : List ℕ → ℕ) (lists : List (List ℕ)) (k : ℕ) → k < length lists
     → map f (take (k + 1) lists) ≡ map f (take k lists) ++ f (slice_index_or lists k []) ∷ []
@@ -310,35 +316,42 @@ lies_at (d ∷ ds) start shape k lies within =
     let sizes = array_sizes (d ∷ ds) in absurd (omega (arith, within_starts start shape sizes lies, within_long start shape sizes lies))
 
 -- what is found of elements that aren't none is what is counted
-module _ {K : Type 0} (dimensions : K → List Dimension) (source target : List Dimension) (first at : List ℕ) (given : Grouped K)
-    (chains : AllByRecursion IsChain (dimensions given.grid.now)) (is_box : IsBox given.elements.now) (is_groups : IsBox given.groups.now)
-    (lies : LiesIn given.elements.now (array_sizes (dimensions given.grid.now))) (many : length given.each.now ≡ length (dimensions given.grid.now))
-    (some : ¬ IsEmptyBox given.elements.now) (is : IsCover (dimensions given.grid.now) given.elements.now given.cover.now)
-    (last : given.last.now ≡ lasts given.cover.now.start given.cover.now.shape)
-    (named : AreGroups (dimensions given.grid.now) (numbers given.each.now) given.elements.now given.groups.now)
-    (copied : AreCopied source target given.elements.now first at) where
-  pub are_grouped : AreGrouped dimensions source target first at given
-  are_grouped =
-      let ds = dimensions given.grid.now in
-      let there = some_groups source target ds given.each.now given.elements.now given.cover.now given.groups.now first at chains many is_box some lies is
-      is_groups named copied
-      in
-      let each = as_many_each ds given.each.now chains many given.elements.now given.cover.now is_box is in
-      let long = there.long in
-      record {
-        some = some;
-        named = named;
-        long = long;
-        cover_long = each.first_many;
-        last_long = ap length last ∙ each.last_many;
-        in_source = λ k within. lies_at source first given.elements.now.shape k copied.in_source (omega (arith, within, long.source_long));
-        in_target = λ k within. lies_at target at given.elements.now.shape k copied.in_target (omega (arith, within, long.target_long));
-        first_fits = λ k within. end_fits first given.elements.now.shape k copied.from.fits (omega (arith, within, long.first_long))
-            (omega (arith, within, long.shape_long));
-        at_fits = λ k within. end_fits at given.elements.now.shape k copied.into.fits (omega (arith, within, long.at_long))
-            (omega (arith, within, long.shape_long));
-        take = λ any k within.
-            rw last
-            (groups_take ds given.each.now given.elements.now given.cover.now given.groups.now chains many is_box some lies is is_groups named long.group_long
-            there.many any k within);
-      }
+pub are_grouped : {K : Type 0} (dimensions : K → List Dimension) (grid : K) (each : List NonZeroU64) (elements : Box) (source target : List Dimension)
+    (first at : List ℕ) (given : Grouped K) → IsGrouped dimensions grid each elements given → AllByRecursion IsChain (dimensions grid) → IsBox elements
+    → LiesIn elements (array_sizes (dimensions grid)) → length each ≡ length (dimensions grid) → AreCopied source target elements first at
+    → AreGrouped dimensions source target first at given
+are_grouped dimensions grid each elements source target first at given is chains is_box lies many copied =
+    let ds = dimensions grid in
+    let there = some_groups source target ds each elements given.cover given.groups first at chains many is_box is.some lies is.is_cover is.is_box is.named copied in
+    let lists = as_many_each ds each chains many elements given.cover is_box is.is_cover in
+    let long = there.long in
+    rw (is.same_grid, is.same_each, is.same_elements) (record {
+      some = is.some;
+      is_box = is.is_box;
+      named = is.named;
+      long = long;
+      cover_long = lists.first_many;
+      last_long = ap length is.last ∙ lists.last_many;
+      in_source = λ k within. lies_at source first elements.shape k copied.in_source (omega (arith, within, long.source_long));
+      in_target = λ k within. lies_at target at elements.shape k copied.in_target (omega (arith, within, long.target_long));
+      first_fits = λ k within. end_fits first elements.shape k copied.from.fits (omega (arith, within, long.first_long)) (omega (arith, within, long.shape_long));
+      at_fits = λ k within. end_fits at elements.shape k copied.into.fits (omega (arith, within, long.at_long)) (omega (arith, within, long.shape_long));
+      take = λ any k within.
+          rw is.last
+          (groups_take ds each elements given.cover given.groups chains many is_box is.some lies is.is_cover is.is_box is.named long.group_long there.many any k within);
+    })
+
+-- and so there is a number for each dimension
+pub are_lists : {K : Type 0} (dimensions : K → List Dimension) (source target : List Dimension) (first at : List ℕ) (given : Grouped K) (k : ℕ)
+    → AreGrouped dimensions source target first at given → k < length given.each.now → AreLists k given
+are_lists dimensions source target first at given k are within =
+    let long = are.long in
+    record {
+      each = within;
+      start = omega (arith, within, long.each_long, long.start_long);
+      shape = omega (arith, within, long.each_long, long.shape_long);
+      cover = omega (arith, within, long.each_long, are.cover_long);
+      last = omega (arith, within, long.each_long, are.last_long);
+      group = omega (arith, within, long.each_long, long.group_long);
+      groups = omega (arith, within, long.each_long, long.groups_long);
+    }

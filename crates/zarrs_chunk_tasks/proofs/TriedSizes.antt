@@ -12,7 +12,7 @@ use Rattle.zarrs_chunks.proofs.Covers.{head_some, tail_some}
 use Rattle.zarrs_chunk_plan.specs.Counts.{product}
 use Rattle.zarrs_chunks.specs.Subsets.{IsCover}
 use Rattle.zarrs_chunk_tasks.specs.Cheapest.{most_choices, most_sizes}
-use Rattle.zarrs_chunk_tasks.specs.declared.counts.Grouped.{Grouped}
+use Rattle.zarrs_chunk_tasks.specs.declared.copied.Grouped.{Grouped}
 use Rattle.zarrs_chunk_tasks.specs.declared.tried.Tried.{Tried}
 use Rattle.zarrs_chunk_tasks.specs.declared.sizes.Size.{Size}
 use Rattle.zarrs_chunk_tasks.specs.seen.Choices.{rows_of}
@@ -210,7 +210,7 @@ parts_more rows k row part parts after within is so_far here put =
 
 pub grouped_many : {K : Type 0} (dimensions : K → List Dimension) (source target : List Dimension) (first at : List ℕ) (groups : Grouped K)
     → AreGrouped dimensions source target first at groups
-    → AreAsMany source target first groups.elements.now.start groups.elements.now.shape groups.cover.now.start groups.last.now
+    → AreAsMany source target first groups.elements.now.start groups.elements.now.shape groups.cover.start groups.last.items
 grouped_many dimensions source target first at groups are =
     let long = are.long in
     record {

@@ -29,11 +29,11 @@ pub record IsCost (source : List Dimension) (read_elements : ℕ) (tasks : List 
   pub are_reads : AllZip (λ (task : Task). AreMet source task.source) tasks reads
   pub cost_is : sum (map (λ (read : ℕ × ℕ). read.0 * read_elements + read.1) reads) ≡ cost
 
--- each buffer has at most so many elements, together with a chunk of so many
+-- each buffer has at most `most` elements, together with a chunk of `chunk` elements
 abbrev pub HoldAtMost : (chunk most : ℕ) → List Task → Type 0
 HoldAtMost chunk most = AllByRecursion (λ (task : Task). product task.source.shape + chunk ≤ most)
 
--- up to which number each number of chunks is tried, and how many choices are gone through
+-- up to which number each number of chunks is tried, and how many combinations are compared
 abbrev pub most_sizes : ℕ
 most_sizes = 65536
 
@@ -42,7 +42,7 @@ most_choices = 16777216
 
 -- a region of the source's array is copied to the target's, from `at` on
 module _ (source target : List Dimension) (region : Box) (at : List ℕ) where
-  -- how many elements the largest chunk has that is read or written, whole
+  -- how many elements the largest chunk has that any task reads or writes, whole
   pub record IsLargestOfBoth (largest : ℕ) : Type 0 where
     pub read : ℕ
     pub is_read : IsLargestChunk source region read
@@ -61,13 +61,12 @@ module _ (source target : List Dimension) (region : Box) (at : List ℕ) where
         (each : List NonZeroU64) → length each ≡ length source → (tasks : List Task) → AreTasksOf each tasks → HoldAtMost largest most tasks
         → (its_cost : ℕ) × IsCost source read_elements tasks its_cost × (cost ≤ its_cost)
 
-    -- The chosen tasks fit, and cost what is told. Where the choice is exact, none that fit cost less.
+    -- The chosen tasks fit, and cost what is told, which is at most the greatest number. If the choice is exact, none that fit cost less.
     pub record IsChosen (chosen : CheapestTasks) : Type 0 where
       pub long : length chosen.task_chunks.items ≡ length source
       pub fits : (tasks : List Task) → AreTasksOf chosen.task_chunks.items tasks → HoldAtMost largest most tasks
       pub costs : (tasks : List Task) → AreTasksOf chosen.task_chunks.items tasks
           → (cost : ℕ) × IsCost source read_elements tasks cost × (chosen.cost ≡ min cost greatest_of_128)
-      pub told : IsTrue chosen.is_exact → chosen.cost < greatest_of_128
       pub cheapest : IsTrue chosen.is_exact → NoneIsCheaper chosen.cost
 
     -- no tasks fit
@@ -81,13 +80,12 @@ module _ (source target : List Dimension) (region : Box) (at : List ℕ) where
     pub is_largest : IsLargestOfBoth largest
     pub choice : MatchOption found (NoneFits largest most read_elements) (IsChosen largest most read_elements)
 
--- The choice is exact if it costs less than the greatest cost that is told, and the target's chunks up to the region's last one are few: at most 2^16 along
--- each dimension, and at most 2^24 along all together.
+-- The choice is exact if the target's chunks up to the region's last one are few: at most 2^16 along each dimension, and the product is at most 2^24.
 pub record IsExactIfFew (target : List Dimension) (region : Box) (at : List ℕ) (chosen : CheapestTasks) : Type 0 where
   pub cover : Box
   pub is_cover : Covers target (moved at region) cover
   pub exact : AllByRecursion (λ n. n ≤ most_sizes) (ends cover.start cover.shape) → product (ends cover.start cover.shape) ≤ most_choices
-      → chosen.cost < greatest_of_128 → IsTrue chosen.is_exact
+      → IsTrue chosen.is_exact
 
 -- no tasks cost nothing
 pub record IsOfNoTasks (source : List Dimension) (chosen : CheapestTasks) : Type 0 where

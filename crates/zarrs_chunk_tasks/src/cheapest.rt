@@ -1,14 +1,13 @@
 //! The cheapest tasks under a bound of memory.
-ghost use Rattle.std.specs.Prelude.{◌≡◌, ◌↔◌, ◌<◌, IfErr, IfOk, IfSome, IsTrue, MatchOption, None, length, reverse};
+ghost use Rattle.std.specs.Prelude.{◌≡◌, IfErr, IfOk, IfSome, MatchOption, None, reverse};
 ghost use Rattle.zarrs_chunk_base.specs.ArraySubset.{IsEmptyBox};
 ghost use Rattle.zarrs_chunk_base.specs.Dimension.{array_sizes};
 ghost use Rattle.zarrs_chunk_base.specs.Refusal.{HasMemory, OrMemory};
 ghost use Rattle.zarrs_chunk_plan.specs.Region.{CanBeMoved, IsRegionFault};
 ghost use Rattle.zarrs_chunk_tasks.specs.Cheapest.{IsChoice, IsExactIfFew, IsOfNoTasks};
-ghost use Rattle.zarrs_chunk_tasks.specs.Counts.{greatest_of_128};
 
 use crate::choices::{Choice, cheapest_choice};
-use crate::counts::Copied;
+use crate::copied::Copied;
 use crate::largest_chunk::largest_chunk;
 use crate::tried::tried_sizes;
 use std::alloc::Global;
@@ -24,20 +23,24 @@ pub struct CheapestTasks {
     pub task_chunks: Vec<NonZeroU64>,
     /// What the tasks cost, in elements: the elements of the chunks that they read, and what the reads are worth. 2^128 - 1 stands for all greater numbers too.
     pub cost: u128,
-    /// Whether no choice costs less. It is `false` if not all choices were compared, or if the cost is too great to be told.
+    /// Whether all numbers of chunks were compared. If so, no tasks that fit cost less.
     pub is_exact: bool,
 }
 
-/// Chooses the [`tasks`](crate::tasks) of the copy of a region that cost the least, under a bound of memory: the buffer of a task and the largest chunk that
-/// is read or written have together at most `max_elements` elements, each chunk whole. `None` if no tasks are that small.
+/// Chooses how many chunks a task takes, so that the [`tasks`](crate::tasks) of the copy of a region cost the least under a bound of memory. The buffer of each
+/// task, together with the largest chunk that any task reads or writes, whole, has at most `max_elements` elements. `None` if no tasks fit.
 ///
-/// A task costs the elements of the chunks that it reads, each whole, and `read_elements` for each of these chunks: what one read is worth, in elements. Of
-/// 2,500,000 elements of 4 bytes a read is worth ten megabytes, which is what a store gives while it waits for one request.
+/// Tasks cost the elements of the chunks that they read, whole, and `read_elements` for each of these reads: what one read is worth, in elements. If a store
+/// gives ten megabytes while it waits for one request, a read is worth 2,500,000 elements of 4 bytes. What is written costs nothing. These are the products of
+/// [`task_counts`](crate::task_counts): `chunks_read` times `read_elements`, and `elements_decoded`.
 ///
-/// Along each dimension each number of chunks is tried up to 2^16, and from there on those that halve the number of groups. If that makes more than 2^24
-/// choices, some of these numbers are left out. Then `is_exact` is `false`.
+/// All numbers of chunks are compared if the target's chunks from the array's first one to the region's last one are at most 2^16 along each dimension, and the
+/// product of these numbers is at most 2^24. Beyond, `is_exact` may be `false`. Then along a dimension each number up to 2^16 is tried, and from there on those
+/// that make one group, two, four and so on. If these numbers have more than 2^24 combinations, some of them are left out along each dimension, with equally
+/// many between those that are tried. The tasks fit in any case.
 ///
-/// It takes the time to count groups of each of these sizes, as [`task_counts`](crate::task_counts) does, and of some multiplications for each choice.
+/// An empty region has no tasks: they cost nothing. It takes the time to count groups of each number of chunks, as [`task_counts`](crate::task_counts) does, and
+/// of some multiplications for each combination.
 ///
 /// # Errors
 /// As of [`moved_box`]. Or out of memory.
@@ -92,7 +95,7 @@ fn outermost_first(found: Option<Choice>, is_exact: bool) -> Option<CheapestTask
     ensures some { IfSome found (λ choice. MatchOption result ⊥ (λ cheapest.
         (cheapest.task_chunks.items ≡ reverse choice.each.items)
         × (cheapest.cost ≡ choice.cost)
-        × (IsTrue cheapest.is_exact ↔ (IsTrue is_exact × (choice.cost < greatest_of_128))))) }
+        × (cheapest.is_exact ≡ is_exact))) }
 {
     let choice = found?;
     let mut task_chunks = choice.each;
@@ -100,6 +103,6 @@ fn outermost_first(found: Option<Choice>, is_exact: bool) -> Option<CheapestTask
     Some(CheapestTasks {
         task_chunks,
         cost: choice.cost,
-        is_exact: is_exact && choice.cost < u128::MAX,
+        is_exact,
     })
 }

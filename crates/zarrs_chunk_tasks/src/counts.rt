@@ -11,14 +11,13 @@ ghost use Rattle.zarrs_chunk_tasks.specs.Tasks.{AreTasksBySource, AreTasksByTarg
 ghost use Rattle.zarrs_chunk_tasks.specs.declared.task.Task.{Task};
 ghost use Rattle.zarrs_chunk_tasks.specs.seen.Counts.{AreCopied, AreGroupCounts, AreGrouped};
 
-use crate::buffer::groups_over;
-use crate::groups_along::{GroupsAlong, sums_along};
+use crate::copied::{Copied, Grouped, groups_along, groups_with};
+use crate::groups_along::sums_along;
 use crate::plan::moved_region;
 use crate::tasks_error::TasksError;
 use std::alloc::{AllocError, Global};
 use std::num::NonZeroU64;
 use zarrs_chunk_base::{ArraySubset, Refusal};
-use zarrs_chunk_parts::expect_answer;
 use zarrs_chunks::ChunkGridTraits;
 
 /// What the tasks of a copy read and write, along one dimension. A count of the tasks is the product of these numbers over all dimensions: it may be
@@ -126,31 +125,6 @@ pub fn task_counts_by_source<G: ChunkGridTraits, H: ChunkGridTraits>(
     Ok(counts_of(alloc, &copied, source, task_chunks, region)?)
 }
 
-/// Where elements lie in two arrays.
-#[derive(Drop)]
-pub(crate) struct Copied<'a, G, H> {
-    /// The grid of the array that they come from, and where the first one lies in it.
-    pub(crate) source: &'a G,
-    pub(crate) first: &'a [u64],
-    /// The grid of the array that they go to, and where the first one goes.
-    pub(crate) target: &'a H,
-    pub(crate) at: &'a [u64],
-}
-
-/// The groups of chunks that hold some of the elements.
-#[derive(Drop)]
-pub(crate) struct Grouped<'a, K> {
-    /// The grid whose chunks are grouped, and how many of them a group joins along each dimension.
-    pub(crate) grid: &'a K,
-    pub(crate) each: &'a [NonZeroU64],
-    /// The elements, as a box of this grid's array, the cover of the box, and its last chunk.
-    pub(crate) elements: &'a ArraySubset,
-    pub(crate) cover: &'a ArraySubset,
-    pub(crate) last: &'a [u64],
-    /// The groups, as a box of their numbers.
-    pub(crate) groups: &'a ArraySubset,
-}
-
 /// Counts the groups of chunks of a grid that hold some of the elements, which are a box of its array.
 ///
 /// # Errors
@@ -172,19 +146,8 @@ fn counts_of<K: ChunkGridTraits, G: ChunkGridTraits, H: ChunkGridTraits>(
         (map non_zero_u64_get each.now) elements.now copied.now.first.now copied.now.at.now
         counts.items) }
 {
-    elements.is_a_box();
-    let cover = expect_answer(grid.chunks_in_array_subset(alloc, elements))?;
-    let groups = groups_over(alloc, grid, elements, each, &cover)?;
-    let Some(last) = cover.end_inc(alloc)? else {
+    let Some(grouped) = groups_with(alloc, grid, each, elements)? else {
         return Ok(vec![in alloc; of_no_tasks(); each.len()]?);
-    };
-    let grouped = Grouped {
-        grid,
-        each,
-        elements,
-        cover: &cover,
-        last: &last,
-        groups: &groups,
     };
     counts_of_some(alloc, copied, &grouped)
 }
@@ -206,22 +169,9 @@ fn counts_of_some<K: ChunkGridTraits, G: ChunkGridTraits, H: ChunkGridTraits>(
         (map non_zero_u64_get grouped.now.each.now) grouped.now.elements.now
         copied.now.first.now copied.now.at.now counts.items) }
 {
-    let elements = grouped.elements;
-    let groups = grouped.groups;
-    groups.is_a_box();
     let mut counts = Vec::with_capacity(alloc, grouped.each.len())?;
     for dimension in 0..grouped.each.len() {
-        let along = GroupsAlong {
-            grid: grouped.grid,
-            dimension,
-            each: grouped.each[dimension],
-            at: elements.start()[dimension],
-            size: elements.shape()[dimension],
-            first: grouped.cover.start()[dimension],
-            last: grouped.last[dimension],
-            group: groups.start()[dimension],
-            groups: groups.shape()[dimension],
-        };
+        let along = groups_along(grouped, dimension);
         let read = sums_along(alloc, &along, copied.source, copied.first[dimension])?;
         let written = sums_along(alloc, &along, copied.target, copied.at[dimension])?;
         counts.push(CountsAlong {

@@ -25,6 +25,7 @@
 mod buffer;
 mod cheapest;
 mod choices;
+mod copied;
 mod counts;
 mod group_numbers;
 mod groups_along;

@@ -13,14 +13,11 @@ ghost use Rattle.zarrs_chunk_tasks.specs.seen.Counts.{AreCopied, AreGrouped};
 ghost use Rattle.zarrs_chunk_tasks.specs.seen.Sizes.{AreSizes, sides};
 ghost use Rattle.zarrs_chunk_tasks.specs.seen.Tried.{AreTriedOver, IsPart};
 
-use crate::buffer::groups_over;
-use crate::counts::{Copied, Grouped};
-use crate::groups_along::GroupsAlong;
+use crate::copied::{Copied, Grouped, groups_along, groups_with};
 use crate::sizes::{MOST_SIZES, Size, sizes_along};
 use std::alloc::{AllocError, Global};
 use std::num::NonZeroU64;
 use zarrs_chunk_base::ArraySubset;
-use zarrs_chunk_parts::expect_answer;
 use zarrs_chunks::ChunkGridTraits;
 
 /// How many choices of one size for each dimension are gone through, at most.
@@ -54,20 +51,9 @@ pub(crate) fn tried_sizes<G: ChunkGridTraits, H: ChunkGridTraits>(
         (AreTriedOver (G.dimensions copied.now.source.now) (H.dimensions copied.now.target.now)
         copied.now.first.now elements.now)) }
 {
-    elements.is_a_box();
     let one_each = vec![in alloc; NonZeroU64::MIN; elements.start().len()]?;
-    let cover = expect_answer(copied.target.chunks_in_array_subset(alloc, elements))?;
-    let groups = groups_over(alloc, copied.target, elements, &one_each, &cover)?;
-    let Some(last) = cover.end_inc(alloc)? else {
+    let Some(grouped) = groups_with(alloc, copied.target, &one_each, elements)? else {
         return Ok(None);
-    };
-    let grouped = Grouped {
-        grid: copied.target,
-        each: &one_each,
-        elements,
-        cover: &cover,
-        last: &last,
-        groups: &groups,
     };
     Ok(Some(sizes_of_groups(alloc, copied, &grouped)?))
 }
@@ -86,9 +72,9 @@ fn sizes_of_groups<G: ChunkGridTraits, H: ChunkGridTraits>(
         (H.dimensions copied.now.target.now) copied.now.first.now grouped.now.elements.now.start
         grouped.now }
     requires cover { IsCover (H.dimensions copied.now.target.now) grouped.now.elements.now
-        grouped.now.cover.now }
-    requires last { grouped.now.last.now
-        ≡ lasts grouped.now.cover.now.start grouped.now.cover.now.shape }
+        grouped.now.cover }
+    requires last { grouped.now.last.items
+        ≡ lasts grouped.now.cover.start grouped.now.cover.shape }
     ensures { IfOk result (AreTriedOver (G.dimensions copied.now.source.now)
         (H.dimensions copied.now.target.now) copied.now.first.now grouped.now.elements.now) }
 {
@@ -99,7 +85,7 @@ fn sizes_of_groups<G: ChunkGridTraits, H: ChunkGridTraits>(
             is_exact: false,
         });
     }
-    let is_exact = are_few(grouped.last);
+    let is_exact = are_few(&grouped.last);
     Ok(Tried { rows, is_exact })
 }
 
@@ -118,24 +104,12 @@ fn all_sizes<G: ChunkGridTraits, H: ChunkGridTraits>(
         grouped.now }
     ensures { IfOk result (λ rows. AllZip AreSizes (sides (G.dimensions copied.now.source.now)
         (H.dimensions copied.now.target.now) copied.now.first.now grouped.now.elements.now.start
-        grouped.now.elements.now.shape grouped.now.cover.now.start grouped.now.last.now)
+        grouped.now.elements.now.shape grouped.now.cover.start grouped.now.last.items)
         (rows_of rows.items)) }
 {
-    let groups = grouped.groups;
-    let elements = grouped.elements;
     let mut rows = Vec::with_capacity(alloc, grouped.each.len())?;
     for dimension in 0..grouped.each.len() {
-        let along = GroupsAlong {
-            grid: grouped.grid,
-            dimension,
-            each: grouped.each[dimension],
-            at: elements.start()[dimension],
-            size: elements.shape()[dimension],
-            first: grouped.cover.start()[dimension],
-            last: grouped.last[dimension],
-            group: groups.start()[dimension],
-            groups: groups.shape()[dimension],
-        };
+        let along = groups_along(grouped, dimension);
         rows.push(sizes_along(alloc, &along, copied.source, copied.first[dimension])?)?;
     }
     Ok(rows)

@@ -3,17 +3,18 @@ use Rattle.std.specs.Prelude.{◌≡◌, ℕ, ◌+◌, ◌-◌, ◌*◌, ◌<◌
 use Rattle.std.specs.Int.NonZero.{non_zero_u64_get}
 use Rattle.std.specs.List.{AllByRecursion, range_with_len, sum}
 use Rattle.std.specs.declared.num.NonZeroU64.{NonZeroU64}
-use Rattle.zarrs_chunk_base.specs.ArraySubset.{Box, IsBox, IsEmptyBox}
+use Rattle.zarrs_chunk_base.specs.ArraySubset.{Box, IsBox, IsEmptyBox, lasts}
 use Rattle.zarrs_chunk_base.specs.Dimension.{Dimension, Holds, array_sizes}
 use Rattle.zarrs_chunk_base.specs.Greatest.{greatest}
 use Rattle.zarrs_chunk_axes.specs.Along.{Along}
+use Rattle.zarrs_chunks.specs.Subsets.{IsCover}
 use Rattle.zarrs_chunks.specs.Walks.{chunks_in}
 use Rattle.zarrs_chunk_plan.specs.Counts.{product}
 use Rattle.zarrs_chunk_plan.specs.Region.{EndWithin}
 use Rattle.zarrs_chunk_plan.specs.seen.Sources.{RangeTakes, home, met, met_by, taken, taken_from}
 use Rattle.zarrs_chunk_tasks.specs.Counts.{AreNone, in_all}
 use Rattle.zarrs_chunk_tasks.specs.declared.counts.CountsAlong.{CountsAlong}
-use Rattle.zarrs_chunk_tasks.specs.declared.counts.Grouped.{Grouped}
+use Rattle.zarrs_chunk_tasks.specs.declared.copied.Grouped.{Grouped}
 use Rattle.zarrs_chunk_tasks.specs.declared.groups_along.Alike.{Alike}
 use Rattle.zarrs_chunk_tasks.specs.declared.groups_along.GroupsAlong.{GroupsAlong}
 use Rattle.zarrs_chunk_tasks.specs.declared.groups_along.Met.{Met}
@@ -137,13 +138,35 @@ pub record AreLong (source target ds : List Dimension) (each : List NonZeroU64) 
   pub groups_long : length groups.shape ≡ length ds
 
 module _ {K : Type 0} where
+  -- these are the groups of a grid's chunks that hold some of a box of elements, of which there is one
+  pub record IsGrouped (dimensions : K → List Dimension) (grid : K) (each : List NonZeroU64) (elements : Box) (grouped : Grouped K) : Type 0 where
+    pub same_grid : grouped.grid.now ≡ grid
+    pub same_each : grouped.each.now ≡ each
+    pub same_elements : grouped.elements.now ≡ elements
+    pub some : ¬ IsEmptyBox elements
+    pub is_cover : IsCover (dimensions grid) elements grouped.cover
+    pub last : grouped.last.items ≡ lasts grouped.cover.start grouped.cover.shape
+    pub is_box : IsBox grouped.groups
+    pub named : AreGroups (dimensions grid) (map non_zero_u64_get each) elements grouped.groups
+
+  -- there is a number for the dimension
+  pub record AreLists (dimension : ℕ) (grouped : Grouped K) : Type 0 where
+    pub each : dimension < length grouped.each.now
+    pub start : dimension < length grouped.elements.now.start
+    pub shape : dimension < length grouped.elements.now.shape
+    pub cover : dimension < length grouped.cover.start
+    pub last : dimension < length grouped.last.items
+    pub group : dimension < length grouped.groups.start
+    pub groups : dimension < length grouped.groups.shape
+
   -- these are the groups that hold some of the elements, and along each dimension each of them takes some
   pub record AreGrouped (dimensions : K → List Dimension) (source target : List Dimension) (first at : List ℕ) (grouped : Grouped K) : Type 0 where
     pub some : ¬ IsEmptyBox grouped.elements.now
-    pub named : AreGroups (dimensions grouped.grid.now) (map non_zero_u64_get grouped.each.now) grouped.elements.now grouped.groups.now
-    pub long : AreLong source target (dimensions grouped.grid.now) grouped.each.now grouped.elements.now grouped.groups.now first at
-    pub cover_long : length grouped.cover.now.start ≡ length (dimensions grouped.grid.now)
-    pub last_long : length grouped.last.now ≡ length (dimensions grouped.grid.now)
+    pub is_box : IsBox grouped.groups
+    pub named : AreGroups (dimensions grouped.grid.now) (map non_zero_u64_get grouped.each.now) grouped.elements.now grouped.groups
+    pub long : AreLong source target (dimensions grouped.grid.now) grouped.each.now grouped.elements.now grouped.groups first at
+    pub cover_long : length grouped.cover.start ≡ length (dimensions grouped.grid.now)
+    pub last_long : length grouped.last.items ≡ length (dimensions grouped.grid.now)
     pub in_source : (k : ℕ) → k < length (dimensions grouped.grid.now)
         → Along (λ s. slice_index_or first k 0 + slice_index_or grouped.elements.now.shape k 0 ≤ s.array_size) source k
     pub in_target : (k : ℕ) → k < length (dimensions grouped.grid.now)
@@ -154,8 +177,8 @@ module _ {K : Type 0} where
         → slice_index_or at k 0 + slice_index_or grouped.elements.now.shape k 0 ≤ greatest
     pub take : (any : NonZeroU64) (k : ℕ) → k < length (dimensions grouped.grid.now)
         → Along (AreTaking (non_zero_u64_get (slice_index_or grouped.each.now k any)) (slice_index_or grouped.elements.now.start k 0)
-        (slice_index_or grouped.elements.now.shape k 0) (slice_index_or grouped.cover.now.start k 0) (slice_index_or grouped.last.now k 0)
-        (slice_index_or grouped.groups.now.start k 0) (slice_index_or grouped.groups.now.shape k 0)) (dimensions grouped.grid.now) k
+        (slice_index_or grouped.elements.now.shape k 0) (slice_index_or grouped.cover.start k 0) (slice_index_or grouped.last.items k 0)
+        (slice_index_or grouped.groups.start k 0) (slice_index_or grouped.groups.shape k 0)) (dimensions grouped.grid.now) k
 
 -- The counts of the groups that hold some of a box of elements, which lies from `first` on in the source's array and from `at` on in the target's.
 pub record AreGroupCounts (source target ds : List Dimension) (each : List ℕ) (elements : Box) (first at : List ℕ) (along : List CountsAlong) : Type 0 where

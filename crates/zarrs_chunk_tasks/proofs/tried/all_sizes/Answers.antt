@@ -1,4 +1,4 @@
-use Rattle.std.proofs.Common.{◌∷◌, [], ◌<◌, Vec, Global, arith, length, take_all}
+use Rattle.std.proofs.Common.{◌≡◌, ◌∙◌, ◌∷◌, [], ◌<◌, Vec, Global, ap, arith, length, take_all}
 use Rattle.std.proofs.lemmas.List.{map-append}
 use Rattle.zarrs_chunk_tasks.specs.declared.sizes.Size.{Size}
 use Rattle.zarrs_chunk_tasks.specs.seen.Sizes.{AreSizes, sides}
@@ -16,17 +16,11 @@ loop-dimension-preserved g c =
     let many = grouped_many g.H.ChunkGridTraits.dimensions source target copied.first.now grouped.elements.now.start grouped c.requires.grouped in
     let long = c.requires.grouped.long in
     let within : k < length target = omega (arith, c.loop-dimension-test.true, long.each_long, long.target_long) in
-    let here =
-    rw (
-      c.start.ensures.value,
-      c.shape.ensures.value,
-      c.start-in-loop-dimension.ensures.value,
-      c.requires.same,
-    ) at (c.in_ok-sizes_along.ensures {u = tt})
-    in
+    let along = c.groups_along-along.ensures in
+    let here = rw (along.grid, along.dimension, along.at, along.size, along.first, along.last, c.requires.same) at (c.in_ok-sizes_along.ensures {u = tt}) in
     rw ((c.in_ok-push.ensures {u = tt}).items, map-append (λ (row : Vec Size Global). row.items) c.loop-dimension.rows.items (c.in_ok-sizes_along.field-0 ∷ []))
-    (rows_more AreSizes source target copied.first.now grouped.elements.now.start grouped.elements.now.shape grouped.cover.now.start grouped.last.now k _ _ many
-    within c.loop-dimension.invariant here)
+    (rows_more AreSizes source target copied.first.now grouped.elements.now.start grouped.elements.now.shape grouped.cover.start grouped.last.items k _ _ many within
+    c.loop-dimension.invariant here)
 
 pub returns : goal.returns
 returns g c =
@@ -36,9 +30,9 @@ returns g c =
     let target = g.H.ChunkGridTraits.dimensions copied.target.now in
     let many = grouped_many g.H.ChunkGridTraits.dimensions source target copied.first.now grouped.elements.now.start grouped c.requires.grouped in
     let long = c.requires.grouped.long in
-    let all = sides source target copied.first.now grouped.elements.now.start grouped.elements.now.shape grouped.cover.now.start grouped.last.now in
+    let all = sides source target copied.first.now grouped.elements.now.start grouped.elements.now.shape grouped.cover.start grouped.last.items in
     let whole = take_all c.loop-dimension.dimension all
     (omega (arith, c.loop-dimension-test.false, long.each_long, long.target_long,
-    as_many_sides source target copied.first.now grouped.elements.now.start grouped.elements.now.shape grouped.cover.now.start grouped.last.now many))
+    as_many_sides source target copied.first.now grouped.elements.now.start grouped.elements.now.shape grouped.cover.start grouped.last.items many))
     in
     rw whole at c.loop-dimension.invariant

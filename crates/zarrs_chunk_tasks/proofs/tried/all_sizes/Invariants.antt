@@ -9,5 +9,5 @@ abbrev pub invariant-loop-dimension : goal.invariant-loop-dimension
 invariant-loop-dimension g l =
     AllZip AreSizes
     (take l.dimension (sides (g.G.ChunkGridTraits.dimensions l.copied.source.now) (g.H.ChunkGridTraits.dimensions l.copied.target.now) l.copied.first.now
-    l.grouped.elements.now.start l.grouped.elements.now.shape l.grouped.cover.now.start l.grouped.last.now))
+    l.grouped.elements.now.start l.grouped.elements.now.shape l.grouped.cover.start l.grouped.last.items))
     (rows_of l.rows.items)

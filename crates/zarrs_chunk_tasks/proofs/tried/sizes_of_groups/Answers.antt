@@ -11,7 +11,7 @@ returns-then-choices_of-gt-MOST_CHOICES g c =
     let target = g.H.ChunkGridTraits.dimensions copied.target.now in
     let last = c.requires.last in
     let many = grouped_many g.H.ChunkGridTraits.dimensions source target copied.first.now grouped.elements.now.start grouped c.requires.grouped in
-    some_are_tried source target copied.first.now grouped.elements.now grouped.cover.now c.in_ok-rows.rows.items c.requires.grouped.some c.requires.cover
+    some_are_tried source target copied.first.now grouped.elements.now grouped.cover c.in_ok-rows.rows.items c.requires.grouped.some c.requires.cover
     (rw last at many) (rw last at (c.in_ok-rows.ensures {u = tt})) c.in_ok-thinned.field-0.items _
     (rw c.deref-then-choices_of-gt-MOST_CHOICES.ensures.value at (c.in_ok-thinned.ensures {u = tt})) refl c.choices_of.result
     (rw c.deref.ensures.value at c.choices_of.ensures) c.if-choices_of-gt-MOST_CHOICES.true (λ is_exact. true≢false (sym is_exact))
@@ -24,5 +24,5 @@ returns g c =
     let target = g.H.ChunkGridTraits.dimensions copied.target.now in
     let last = c.requires.last in
     let many = grouped_many g.H.ChunkGridTraits.dimensions source target copied.first.now grouped.elements.now.start grouped c.requires.grouped in
-    all_are_tried source target copied.first.now grouped.elements.now grouped.cover.now c.in_ok-rows.rows.items c.requires.grouped.some c.requires.cover
-    (rw last at many) (rw last at (c.in_ok-rows.ensures {u = tt})) _ refl (rw last at c.are_few-is_exact.ensures)
+    all_are_tried source target copied.first.now grouped.elements.now grouped.cover c.in_ok-rows.rows.items c.requires.grouped.some c.requires.cover
+    (rw last at many) (rw last at (c.in_ok-rows.ensures {u = tt})) _ refl (rw (c.deref-2.ensures.value, last) at c.are_few-is_exact.ensures)
