@@ -1,6 +1,6 @@
 -- The choice of tasks by what they cost, under a bound of memory.
 -- Source: this library's own.
-use Rattle.std.specs.Prelude.{◌≡◌, ℕ, ◌+◌, ◌*◌, ◌<◌, ◌≤◌, IsTrue, List, MatchOption, Option, fold, length, map, max, min}
+use Rattle.std.specs.Prelude.{◌≡◌, ℕ, ◌+◌, ◌*◌, ◌≤◌, IsTrue, List, MatchOption, Option, fold, length, map, max, min}
 use Rattle.std.specs.Int.NonZero.{non_zero_u64_get}
 use Rattle.std.specs.List.{AllByRecursion, AllZip, sum}
 use Rattle.std.specs.declared.num.NonZeroU64.{NonZeroU64}

@@ -1,4 +1,4 @@
-use Rattle.std.proofs.Common.{◌≡◌, ◌∙◌, inl, length, refl, subst, ⊎_elim}
+use Rattle.std.proofs.Common.{inl, length, refl, subst, ⊎_elim}
 use Rattle.zarrs_chunk_base.specs.ArraySubset.{IsEmptyBox}
 use Rattle.zarrs_chunks.specs.Subsets.{AnswersCover, AnswersEmptyCover}
 use Rattle.zarrs_chunk_plan.proofs.MovedBoxes.{lies_some}

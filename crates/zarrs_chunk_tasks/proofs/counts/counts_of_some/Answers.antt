@@ -1,4 +1,4 @@
-use Rattle.std.proofs.Common.{◌≡◌, ◌<◌, ◌∙◌, ap, arith, length, refl}
+use Rattle.std.proofs.Common.{◌<◌, ◌∙◌, ap, arith, length, refl}
 use Rattle.std.proofs.lemmas.List.{length-map}
 use Rattle.std.specs.Int.NonZero.{non_zero_u64_get}
 use Rattle.zarrs_chunk_tasks.proofs.GroupBoxes.{numbers}

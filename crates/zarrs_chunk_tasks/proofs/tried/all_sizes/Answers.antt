@@ -1,4 +1,4 @@
-use Rattle.std.proofs.Common.{◌≡◌, ◌∙◌, ◌∷◌, [], ◌<◌, Vec, Global, ap, arith, length, take_all}
+use Rattle.std.proofs.Common.{◌∷◌, [], ◌<◌, Vec, Global, arith, length, take_all}
 use Rattle.std.proofs.lemmas.List.{map-append}
 use Rattle.zarrs_chunk_tasks.specs.declared.sizes.Size.{Size}
 use Rattle.zarrs_chunk_tasks.specs.seen.Sizes.{AreSizes, sides}
