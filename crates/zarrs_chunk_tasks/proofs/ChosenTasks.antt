@@ -99,7 +99,7 @@ module _ (source target : List Dimension) (region : Box) (at : List ℕ) (can : 
     sizes_of choice chosen = has_counts all choice (chosen_sizes all rows choice tried chosen)
 
     -- where none of the rows' choices fits, no tasks do
-    pub none_fits : ((choice : List Size) → IsChoice rows choice → ¬ (held choice ≤ room)) → NoneFits source target region at largest most worth
+    pub none_fits : ((choice : List Size) → IsChoice rows choice → ¬ (held choice ≤ room)) → NoneFits source target region at largest most
     none_fits none each many tasks are fit =
         let short = shortest all rows (numbers each) tried (some_chunks each) (length-map each non_zero_u64_get ∙ many ∙ same_many ∙ sym all_many) in
         let any = (sizes_of short.choice short.is_choice).some in
@@ -174,7 +174,7 @@ module _ (source target : List Dimension) (region : Box) (at : List ℕ) (can : 
         (cheapest.task_chunks.items ≡ reverse choice.each.items) × (cheapest.cost ≡ choice.cost)
         × (cheapest.is_exact ≡ tried_all)))
         → (IsTrue tried_all → AllZip AreSizes all rows × AllByRecursion (λ (side : Side). side.high < most_sizes) all)
-        → MatchOption chosen (NoneFits source target region at largest most worth) (IsChosen source target region at largest most worth)
+        → MatchOption chosen (NoneFits source target region at largest most) (IsChosen source target region at largest most worth)
     choice_is None None tried_all finds none put exact = none_fits (λ choice chosen fits. finds choice chosen fits tt)
     choice_is None (Some chosen) tried_all finds none put exact = absurd (is_some (none refl))
     choice_is (Some found) None tried_all finds none put exact = absurd put

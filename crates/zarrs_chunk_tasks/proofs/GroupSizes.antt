@@ -96,23 +96,23 @@ module _ (side : Side) (chain : IsChain side.target) (over : AreOver side.target
   pub one_is_least : (k : ℕ) → 0 < k → largest_by side 1 ≤ largest_by side k
   one_is_least k some =
       greatest_least (of_group indices side.source (grouped side.target 1) side.first side.at side.size) (side.low / 1) (groups_met side 1) (largest_by side k) each where
-    ones : (n : ℕ) → n / 1 ≡ n
-    ones n = omega (arith, div-mul-le_self n 1, lt-div-mul-add {a = n} {b = 1} (omega arith))
+        ones : (n : ℕ) → n / 1 ≡ n
+        ones n = omega (arith, div-mul-le_self n 1, lt-div-mul-add {a = n} {b = 1} (omega arith))
 
-    each : (j : ℕ) → j < groups_met side 1 → taken (grouped side.target 1) side.at side.size (side.low / 1 + j) ≤ largest_by side k
-    each j within =
-        let low = ones side.low in
-        let high = ones side.high in
-        let c = side.low / 1 + j in
-        let order = in_order side.target chain side.at side.size side.low side.high over in
-        let up : side.low / k ≤ c / k = (le-div_iff_mul-le some).1 (omega (arith, div-mul-le_self side.low k, low)) in
-        let to : c / k ≤ side.high / k = (le-div_iff_mul-le some).1 (omega (arith, div-mul-le_self c k, high, within, order)) in
-        let here : side.low / k + (c / k - side.low / k) ≡ c / k = omega (arith, up) in
-        let more = takes_more side.target chain side.at side.size side.low side.high over k some c (omega (arith, low)) (omega (arith, within, low, high, order)) in
-        let is = greatest_is (of_group indices side.source (grouped side.target k) side.first side.at side.size) (side.low / k) (groups_met side k)
-        (c / k - side.low / k) (omega (arith, up, to))
-        in
-        omega (arith, more, is, ap (taken (grouped side.target k) side.at side.size) here)
+        each : (j : ℕ) → j < groups_met side 1 → taken (grouped side.target 1) side.at side.size (side.low / 1 + j) ≤ largest_by side k
+        each j within =
+            let low = ones side.low in
+            let high = ones side.high in
+            let c = side.low / 1 + j in
+            let order = in_order side.target chain side.at side.size side.low side.high over in
+            let up : side.low / k ≤ c / k = (le-div_iff_mul-le some).1 (omega (arith, div-mul-le_self side.low k, low)) in
+            let to : c / k ≤ side.high / k = (le-div_iff_mul-le some).1 (omega (arith, div-mul-le_self c k, high, within, order)) in
+            let here : side.low / k + (c / k - side.low / k) ≡ c / k = omega (arith, up) in
+            let more = takes_more side.target chain side.at side.size side.low side.high over k some c (omega (arith, low)) (omega (arith, within, low, high, order)) in
+            let is = greatest_is (of_group indices side.source (grouped side.target k) side.first side.at side.size) (side.low / k) (groups_met side k)
+            (c / k - side.low / k) (omega (arith, up, to))
+            in
+            omega (arith, more, is, ap (taken (grouped side.target k) side.at side.size) here)
 
   -- one group takes all of the range
   takes_all : (k : ℕ) → side.high < k → TakesAll side k
@@ -133,8 +133,12 @@ module _ (side : Side) (chain : IsChain side.target) (over : AreOver side.target
       let low = in_order side.target chain side.at side.size side.low side.high over in
       let here = takes_all k more in
       let there = takes_all (side.high + 1) (omega arith) in
-      rw (div-eq_of_lt {n = side.low} {m = k} (omega (arith, low)), div-eq_of_lt more, div-eq_of_lt {n = side.low} {m = side.high + 1} (omega (arith, low)),
-      div-eq_of_lt {n = side.high} {m = side.high + 1} (omega arith))
+      rw (
+        div-eq_of_lt {n = side.low} {m = k} (omega (arith, low)),
+        div-eq_of_lt more,
+        div-eq_of_lt {n = side.low} {m = side.high + 1} (omega (arith, low)),
+        div-eq_of_lt {n = side.high} {m = side.high + 1} (omega arith),
+      )
       (ap₂ (λ before many. count side.source (side.first + (before - side.at)) many ∷ [])
       (here.start ∙ sym there.start) (omega (arith, here.start, here.end, there.start, there.end)))
 
@@ -192,12 +196,15 @@ module _ (side : Side) where
   kept_beats : (before after : List Size) (size : Size) → IsSize side size → Keeps before size after → IsBeaten side after (each_of size)
   kept_beats before after size is keeps =
       ⊎_elim (λ put. (size, rw put (Contains-append_right before (size ∷ []) size (0, omega arith, refl)), itself size is))
-      (λ (same, (one, among, no_worse)).
-      (one, rw same among, record {
-        largest = omega (arith, is.largest, no_worse.largest);
-        chunks = omega (arith, is.chunks, no_worse.chunks);
-        elements = omega (arith, is.elements, no_worse.elements);
-      })) keeps
+      (λ (same, (one, among, no_worse)). (
+        one,
+        rw same among,
+        record {
+          largest = omega (arith, is.largest, no_worse.largest);
+          chunks = omega (arith, is.chunks, no_worse.chunks);
+          elements = omega (arith, is.elements, no_worse.elements);
+        },
+      )) keeps
 
   all_kept : (before after : List Size) (size : Size) → AllByRecursion (IsSize side) before → IsSize side size → Keeps before size after
       → AllByRecursion (IsSize side) after
@@ -255,12 +262,15 @@ module _ (side : Side) where
       few = λ few. omega (arith, to.few, most_is);
       all = λ few k some.
           ⊎_elim (λ (more : side.high + 1 < k).
-          let (s, among, beats) = to.all (side.high + 1) (omega arith) (omega (arith, most_is)) in
-          (s, among, record {
-            largest = omega (arith, beats.largest, ap greatest_of (beyond side chain over indices k (omega arith)));
-            chunks = omega (arith, beats.chunks, ap sum (beyond side chain over met k (omega arith)));
-            elements = omega (arith, beats.elements, ap sum (beyond side chain over whole k (omega arith)));
-          }))
+          let (s, among, beats) = to.all (side.high + 1) (omega arith) (omega (arith, most_is)) in (
+            s,
+            among,
+            record {
+              largest = omega (arith, beats.largest, ap greatest_of (beyond side chain over indices k (omega arith)));
+              chunks = omega (arith, beats.chunks, ap sum (beyond side chain over met k (omega arith)));
+              elements = omega (arith, beats.elements, ap sum (beyond side chain over whole k (omega arith)));
+            },
+          ))
           (λ (le : k ≤ side.high + 1). to.all k some (omega (arith, most_is))) (cases_lt (side.high + 1) k);
     }
 

@@ -23,7 +23,7 @@ pub record IsLargestChunk (ds : List Dimension) (b : Box) (largest : ℕ) : Type
   pub are_shapes : AllZip (IsShape ds) (chunks_in cover) shapes
   pub largest_is : fold max 0 (map product shapes) ≡ largest
 
--- What tasks cost: a task costs the elements of the chunks that it reads, whole, and as many as one read is worth for each of them.
+-- What tasks cost, in elements. A task costs the elements of the chunks that it reads, whole, and for each of these chunks what one read is worth.
 pub record IsCost (source : List Dimension) (read_elements : ℕ) (tasks : List Task) (cost : ℕ) : Type 0 where
   pub reads : List (ℕ × ℕ)
   pub are_reads : AllZip (λ (task : Task). AreMet source task.source) tasks reads
@@ -33,7 +33,7 @@ pub record IsCost (source : List Dimension) (read_elements : ℕ) (tasks : List 
 abbrev pub HoldAtMost : (chunk most : ℕ) → List Task → Type 0
 HoldAtMost chunk most = AllByRecursion (λ (task : Task). product task.source.shape + chunk ≤ most)
 
--- up to which number each number of chunks is tried, and how many combinations are compared
+-- up to which number each number of chunks is tried, and how many choices of one number a dimension are compared
 abbrev pub most_sizes : ℕ
 most_sizes = 65536
 
@@ -50,35 +50,34 @@ module _ (source target : List Dimension) (region : Box) (at : List ℕ) where
     pub is_written : IsLargestChunk target (moved at region) written
     pub greater : max read written ≡ largest
 
-  -- the tasks by groups of so many chunks of the target
+  -- the tasks by groups that join these numbers of the target's chunks
   abbrev pub AreTasksOf : List NonZeroU64 → List Task → Type 0
   AreTasksOf each = AreTasksByTarget target (map non_zero_u64_get each) region at
 
-  module _ (largest most read_elements : ℕ) where
-    -- no tasks that fit cost less than so much
-    abbrev pub NoneIsCheaper : (cost : ℕ) → Type 0
-    NoneIsCheaper cost =
-        (each : List NonZeroU64) → length each ≡ length source → (tasks : List Task) → AreTasksOf each tasks → HoldAtMost largest most tasks
-        → (its_cost : ℕ) × IsCost source read_elements tasks its_cost × (cost ≤ its_cost)
+  -- no tasks that fit cost less than `cost`
+  abbrev pub NoneIsCheaper : (largest most read_elements cost : ℕ) → Type 0
+  NoneIsCheaper largest most read_elements cost =
+      (each : List NonZeroU64) → length each ≡ length source → (tasks : List Task) → AreTasksOf each tasks → HoldAtMost largest most tasks
+      → (its_cost : ℕ) × IsCost source read_elements tasks its_cost × (cost ≤ its_cost)
 
-    -- The chosen tasks fit, and cost what is told, which is at most the greatest number. If the choice is exact, none that fit cost less.
-    pub record IsChosen (chosen : CheapestTasks) : Type 0 where
-      pub long : length chosen.task_chunks.items ≡ length source
-      pub fits : (tasks : List Task) → AreTasksOf chosen.task_chunks.items tasks → HoldAtMost largest most tasks
-      pub costs : (tasks : List Task) → AreTasksOf chosen.task_chunks.items tasks
-          → (cost : ℕ) × IsCost source read_elements tasks cost × (chosen.cost ≡ min cost greatest_of_128)
-      pub cheapest : IsTrue chosen.is_exact → NoneIsCheaper chosen.cost
+  -- no tasks fit
+  abbrev pub NoneFits : (largest most : ℕ) → Type 0
+  NoneFits largest most =
+      (each : List NonZeroU64) → length each ≡ length source → (tasks : List Task) → AreTasksOf each tasks → ¬ HoldAtMost largest most tasks
 
-    -- no tasks fit
-    abbrev pub NoneFits : Type 0
-    NoneFits =
-        (each : List NonZeroU64) → length each ≡ length source → (tasks : List Task) → AreTasksOf each tasks → ¬ HoldAtMost largest most tasks
+  -- The chosen tasks fit, and cost what the choice says, up to the greatest number. If the choice is exact, no tasks that fit cost less.
+  pub record IsChosen (largest most read_elements : ℕ) (chosen : CheapestTasks) : Type 0 where
+    pub long : length chosen.task_chunks.items ≡ length source
+    pub fits : (tasks : List Task) → AreTasksOf chosen.task_chunks.items tasks → HoldAtMost largest most tasks
+    pub costs : (tasks : List Task) → AreTasksOf chosen.task_chunks.items tasks
+        → (cost : ℕ) × IsCost source read_elements tasks cost × (chosen.cost ≡ min cost greatest_of_128)
+    pub cheapest : IsTrue chosen.is_exact → NoneIsCheaper largest most read_elements chosen.cost
 
-  -- what is chosen of a region that isn't empty
-  pub record IsChoice (most read_elements : ℕ) (found : Option CheapestTasks) : Type 0 where
+  -- What is found of a region that isn't empty: the cheapest tasks, or none, if none fit.
+  pub record FindsTasks (most read_elements : ℕ) (found : Option CheapestTasks) : Type 0 where
     pub largest : ℕ
     pub is_largest : IsLargestOfBoth largest
-    pub choice : MatchOption found (NoneFits largest most read_elements) (IsChosen largest most read_elements)
+    pub choice : MatchOption found (NoneFits largest most) (IsChosen largest most read_elements)
 
 -- The choice is exact if the target's chunks up to the region's last one are few: at most 2^16 along each dimension, and the product is at most 2^24.
 pub record IsExactIfFew (target : List Dimension) (region : Box) (at : List ℕ) (chosen : CheapestTasks) : Type 0 where

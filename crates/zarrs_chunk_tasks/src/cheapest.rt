@@ -4,7 +4,7 @@ ghost use Rattle.zarrs_chunk_base.specs.ArraySubset.{IsEmptyBox};
 ghost use Rattle.zarrs_chunk_base.specs.Dimension.{array_sizes};
 ghost use Rattle.zarrs_chunk_base.specs.Refusal.{HasMemory, OrMemory};
 ghost use Rattle.zarrs_chunk_plan.specs.Region.{CanBeMoved, IsRegionFault};
-ghost use Rattle.zarrs_chunk_tasks.specs.Cheapest.{IsChoice, IsExactIfFew, IsOfNoTasks};
+ghost use Rattle.zarrs_chunk_tasks.specs.Cheapest.{FindsTasks, IsExactIfFew, IsOfNoTasks};
 
 use crate::choices::{Choice, cheapest_choice};
 use crate::copied::Copied;
@@ -27,20 +27,22 @@ pub struct CheapestTasks {
     pub is_exact: bool,
 }
 
-/// Chooses how many chunks a task takes, so that the [`tasks`](crate::tasks) of the copy of a region cost the least under a bound of memory. The buffer of each
-/// task, together with the largest chunk that any task reads or writes, whole, has at most `max_elements` elements. `None` if no tasks fit.
+/// Chooses how many chunks a task takes, so that the [`tasks`](crate::tasks) of the copy of a region cost the least under a bound of memory. Tasks fit if each
+/// buffer has at most `max_elements` elements, together with the largest chunk that any task reads or writes, whole. `None` if no tasks fit.
 ///
 /// Tasks cost the elements of the chunks that they read, whole, and `read_elements` for each of these reads: what one read is worth, in elements. If a store
-/// gives ten megabytes while it waits for one request, a read is worth 2,500,000 elements of 4 bytes. What is written costs nothing. These are the products of
-/// [`task_counts`](crate::task_counts): `chunks_read` times `read_elements`, and `elements_decoded`.
+/// gives ten megabytes while it waits for one request, a read is worth 2,500,000 elements of 4 bytes. What is written costs nothing. So the cost is the product
+/// of `chunks_read` in [`task_counts`](crate::task_counts) times `read_elements`, and the product of `elements_decoded`. An empty region has no tasks, which
+/// cost nothing.
 ///
-/// All numbers of chunks are compared if the target's chunks from the array's first one to the region's last one are at most 2^16 along each dimension, and the
-/// product of these numbers is at most 2^24. Beyond, `is_exact` may be `false`. Then along a dimension each number up to 2^16 is tried, and from there on those
-/// that make one group, two, four and so on. If these numbers have more than 2^24 combinations, some of them are left out along each dimension, with equally
-/// many between those that are tried. The tasks fit in any case.
+/// A choice is a number of chunks for each dimension. Count the target's chunks from the array's first one to the region's last one, along each dimension. If
+/// these counts are at most 2^16, and their product is at most 2^24, all choices are compared. Otherwise `is_exact` may be `false`. Along a dimension each number of chunks
+/// up to 2^16 is tried, and of greater ones those that make one group, two, four and so on. Of a number that reads and decodes no less than a smaller one with
+/// groups that are no longer, no choice is compared. If more than 2^24 choices are left, some numbers are left out along each dimension, with equally many
+/// between those that are compared.
 ///
-/// An empty region has no tasks: they cost nothing. It takes the time to count groups of each number of chunks, as [`task_counts`](crate::task_counts) does, and
-/// of some multiplications for each combination.
+/// It takes the time to count groups of each number of chunks that is tried, as [`task_counts`](crate::task_counts) does, and some multiplications for each
+/// choice.
 ///
 /// # Errors
 /// As of [`moved_box`]. Or out of memory.
@@ -53,7 +55,7 @@ pub fn cheapest_tasks<G: ChunkGridTraits, H: ChunkGridTraits>(
     max_elements: u64,
     read_elements: u64,
 ) -> Result<Option<CheapestTasks>, Refusal<RegionError>>
-    ensures choice { (¬ IsEmptyBox region.now) → IfOk result (IsChoice (G.dimensions source.now)
+    ensures choice { (¬ IsEmptyBox region.now) → IfOk result (FindsTasks (G.dimensions source.now)
         (H.dimensions target.now) region.now at.now max_elements read_elements) }
     ensures exact { (¬ IsEmptyBox region.now) → IfOk result (λ found. IfSome found
         (IsExactIfFew (H.dimensions target.now) region.now at.now)) }

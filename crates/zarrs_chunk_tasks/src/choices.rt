@@ -17,9 +17,9 @@ pub(crate) struct Choice {
     pub(crate) cost: u128,
 }
 
-/// The cheapest choice of a size from each row, of those whose largest buffer has at most `room` elements, if it costs less than the bound. Along the
-/// dimensions before, so many chunks are read and so many elements are decoded. One read is worth `worth` elements. A cost is a number of elements.
-/// `None` where no choice that fits costs less than the bound. Memory is taken only for a choice that costs less than those before it.
+/// Returns the cheapest choice of a size from each row, if it costs less than the bound. Its largest buffer has at most `room` elements. Along the dimensions
+/// before, `read` chunks are read and `decoded` elements are decoded. One read is worth `worth` elements. A cost is a number of elements. `None` if no choice
+/// that fits costs less than the bound. Memory is taken only for a choice that costs less than the choices before it.
 ///
 /// # Errors
 /// Out of memory.
@@ -40,7 +40,7 @@ pub(crate) fn cheapest_choice(
     };
     let mut best = None;
     for size in row {
-        // Where the size alone is too large, nothing in the rows behind fits.
+        // If the size alone is too large, nothing in the other rows fits.
         if size.largest <= room {
             let left = room / size.largest;
             let in_read = read.saturating_mul(u128::from(size.chunks));
@@ -76,7 +76,7 @@ fn of_no_rows(
     })
 }
 
-/// Whether a cost is less than a bound, where there is one.
+/// Whether a cost is less than a bound, if there is one.
 fn is_below(bound: Option<u128>, cost: u128) -> bool
     ensures { IsTrue result ↔ IsBelow bound cost }
 {
@@ -86,7 +86,7 @@ fn is_below(bound: Option<u128>, cost: u128) -> bool
     }
 }
 
-/// The cost of the best choice so far, and the bound where there is none.
+/// The cost of the best choice, or the bound if no choice is found yet.
 fn cost_or(best: &Option<Choice>, bound: Option<u128>) -> Option<u128>
     ensures { result ≡ bound_after bound best.now }
 {
@@ -112,7 +112,7 @@ fn with_size(found: Option<Choice>, each: NonZeroU64) -> Result<Option<Choice>, 
     Ok(Some(choice))
 }
 
-/// The first of two, where there is one.
+/// The first of two choices, or the second one if there is no first.
 fn first(found: Option<Choice>, best: Option<Choice>) -> Option<Choice>
     ensures { result ≡ first_of found best }
 {

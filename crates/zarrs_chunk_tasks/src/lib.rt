@@ -16,7 +16,13 @@
 //! | `plan` | the tasks of a copy |
 //! | `walk` | the walk over them, one after another |
 //! | `counts` | how much they read and write, without a walk |
+//! | `cheapest` | the tasks that cost the least, under a bound of memory |
+//! | `tried` | the numbers of chunks that are tried for them |
+//! | `sizes` | what groups of a number of chunks cost, along one dimension |
+//! | `choices` | the choice of one number for each dimension |
+//! | `largest_chunk` | the largest chunk that holds some of a box of elements |
 //! | `groups_along` | the same along one dimension |
+//! | `copied` | the groups of chunks that hold some of the elements of a copy |
 //! | `buffer` | what a group holds of a box of elements |
 //! | `group_numbers` | the groups of chunks, and the chunks of a group |
 //! | `laws` | what holds of the tasks of every copy |

@@ -28,10 +28,10 @@ pub(crate) struct Size {
     pub(crate) elements: u128,
 }
 
-/// Returns the sizes that are tried, where `range` is a range of indices by groups of any number of chunks, and begins at `first` in the array of another
-/// grid. One chunk comes first. Of the others each has shorter groups than one before it, or reads or decodes less.
+/// Returns the sizes that are tried. `range` is a range of indices by groups of any number of chunks, and begins at `first` in the array of another grid. The
+/// first size is one chunk. Each other size has shorter groups than one before it, or reads or decodes less.
 ///
-/// Each number of chunks is tried up to 2^16. From there on they are so many that there is one group, two, four, and so on.
+/// Each number of chunks is tried up to 2^16, and of greater ones those that make one group, two, four, and so on.
 ///
 /// # Errors
 /// Out of memory.
@@ -61,7 +61,7 @@ pub(crate) fn sizes_along<K: ChunkGridTraits, G: ChunkGridTraits>(
     Ok(sizes)
 }
 
-/// Returns the sizes of up to so many chunks.
+/// Returns the sizes of up to `most` chunks.
 ///
 /// # Errors
 /// Out of memory.
@@ -132,7 +132,7 @@ fn size_of<K: ChunkGridTraits, G: ChunkGridTraits>(
     })
 }
 
-/// Keeps a size, unless its groups are no shorter than those of one that is kept, and it reads and decodes no less.
+/// Keeps a size, unless one that is kept has groups that are no longer, and reads and decodes no more.
 ///
 /// # Errors
 /// Out of memory.

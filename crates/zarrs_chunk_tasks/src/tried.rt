@@ -58,7 +58,7 @@ pub(crate) fn tried_sizes<G: ChunkGridTraits, H: ChunkGridTraits>(
     Ok(Some(sizes_of_groups(alloc, copied, &grouped)?))
 }
 
-/// Returns the sizes that are tried, where there are elements.
+/// Returns the sizes that are tried. There are elements.
 ///
 /// # Errors
 /// Out of memory.
@@ -126,14 +126,14 @@ fn choices_of(rows: &[Vec<Size>]) -> u64
     choices
 }
 
-/// Whether along each dimension each number of chunks is tried, where these are the last ones.
+/// Whether each number of chunks is tried along each dimension. `last` is the last chunk.
 fn are_few(last: &[u64]) -> bool
     ensures { IsTrue result ↔ AllByRecursion (λ n. n < most_sizes) last.now }
 {
     last.iter().all(|n| *n < MOST_SIZES)
 }
 
-/// Returns fewer sizes, so that the choices are few: of each row the first one, and then every second, third and so on.
+/// Returns fewer sizes, so that the choices aren't too many.
 ///
 /// # Errors
 /// Out of memory.
@@ -148,14 +148,14 @@ fn thinned(alloc: Global, rows: &[Vec<Size>]) -> Result<Vec<Vec<Size>>, AllocErr
     Ok(parts)
 }
 
-/// How many sizes of each row are kept, so that together they aren't too many choices: the root of the number of choices.
+/// How many sizes of each row are kept at most. If there are d rows, it is 2 to the power of 24 / d, rounded down, so that there are at most 2^24 choices.
 fn most_each(rows: usize) -> u64
     ensures { 0 < result }
 {
     1 << (24 / (rows as u64).max(1))
 }
 
-/// The first size of a row, and of those behind it so many that there are no more than `most`, with equally many between.
+/// Returns the first size of a row, and every second one after it, or every third one and so on, so that there are no more than `most`.
 ///
 /// # Errors
 /// Out of memory.

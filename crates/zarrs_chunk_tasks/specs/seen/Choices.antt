@@ -17,7 +17,7 @@ rows_of = map (λ (row : Vec Size Global). row.items)
 abbrev pub held : List Size → ℕ
 held choice = product (map (λ (s : Size). s.largest) choice)
 
--- What a choice costs, where so many chunks are read along the dimensions before, and so many elements decoded. One read is worth `worth` elements.
+-- What a choice costs, if `read` chunks are read along the dimensions before, and `decoded` elements decoded. One read is worth `worth` elements.
 abbrev pub cost_of : (worth read decoded : ℕ) → List Size → ℕ
 cost_of worth read decoded choice =
     read * product (map (λ (s : Size). s.chunks) choice) * worth + decoded * product (map (λ (s : Size). s.elements) choice)
@@ -32,12 +32,12 @@ IsChoice [] [] = Unit {0}
 IsChoice (row ∷ rows) (s ∷ choice) = Contains row s × IsChoice rows choice
 IsChoice _ _ = ⊥
 
--- less than a bound, where there is one
+-- less than a bound, if there is one
 abbrev pub IsBelow : Option ℕ → (cost : ℕ) → Type 0
 IsBelow None cost = Unit {0}
 IsBelow (Some most) cost = cost < most
 
--- The cheapest choice that fits, if it costs less than the bound: these numbers, from that of the last dimension to that of the first.
+-- The cheapest choice that fits, if it costs less than the bound. Its numbers begin with the last dimension's.
 pub record IsCheapestChoice (rows : List (List Size)) (room worth read decoded : ℕ) (bound : Option ℕ) (each : List ℕ) (cost : ℕ) : Type 0 where
   pub choice : List Size
   pub is_choice : IsChoice rows choice
@@ -47,14 +47,14 @@ pub record IsCheapestChoice (rows : List (List Size)) (room worth read decoded :
   pub below : IsBelow bound cost
   pub least : (other : List Size) → IsChoice rows other → held other ≤ room → cost ≤ capped_cost worth read decoded other
 
--- what is found of some rows: such a choice, or none, where none that fits costs less than the bound
+-- what is found of some rows: such a choice, or none, if no choice that fits costs less than the bound
 abbrev pub FindsCheapest : List (List Size) → (room worth read decoded : ℕ) → (bound : Option ℕ) → Option Choice → Type 0
 FindsCheapest rows room worth read decoded bound found =
     MatchOption found
     ((choice : List Size) → IsChoice rows choice → held choice ≤ room → ¬ IsBelow bound (capped_cost worth read decoded choice))
     (λ (chosen : Choice). IsCheapestChoice rows room worth read decoded bound (map non_zero_u64_get chosen.each.items) chosen.cost)
 
--- the bound for what is looked for after such a choice: its cost, where one is found
+-- the bound for what is looked for after a choice: its cost, if one is found
 abbrev pub bound_after : (bound : Option ℕ) → Option Choice → Option ℕ
 bound_after bound None = bound
 bound_after _ (Some best) = Some best.cost

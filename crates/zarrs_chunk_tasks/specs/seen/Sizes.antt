@@ -70,7 +70,7 @@ abbrev pub all_counts : List Side → (each : List ℕ) → List CountsAlong
 all_counts (side ∷ rest) (k ∷ each) = counts_by side k ∷ all_counts rest each
 all_counts _ _ = []
 
--- the size has the numbers of groups of so many chunks
+-- the size has the numbers of its groups
 pub record IsSize (side : Side) (s : Size) : Type 0 where
   pub some : 0 < s.largest
   pub largest : s.largest ≡ largest_by side (each_of s)
@@ -104,12 +104,12 @@ pub record IsNoWorse (one other : Size) : Type 0 where
 abbrev pub Keeps : (before : List Size) → Size → (after : List Size) → Type 0
 Keeps before size after = (after ≡ before ++ size ∷ []) ⊎ ((after ≡ before) × ((one : Size) × Contains before one × IsNoWorse one size))
 
--- some sizes, from that of the shortest groups on
+-- some sizes; the first one has the shortest groups
 pub record AreTried (side : Side) (sizes : List Size) : Type 0 where
   pub are : AllByRecursion (IsSize side) sizes
   pub least : StartsWithLeast side sizes
 
--- The sizes that are tried. Where the chunks are few, they are no more than the chunks, and beat groups of each number of chunks.
+-- The sizes that are tried. If the chunks are few, the sizes are no more than the chunks, and beat groups of each number of chunks.
 pub record AreSizes (side : Side) (sizes : List Size) : Type 0 where
   pub are : AllByRecursion (IsSize side) sizes
   pub least : StartsWithLeast side sizes

@@ -13,8 +13,7 @@ loop-alloc-init g c =
     let other = one_of _ _ range.dimension (g.met.G.ChunkGridTraits.chained c.args.other.now) c.requires.other in
     let over = (it.at _ c.requires.range).over in
     let small = chunk_small it.d it.chain range.at range.size range.first range.last over in
-    let each : non_zero_u64_get c.saturating_add-each.result ≡ range.last + 1 = omega (arith, c.saturating_add-each.ensures, small) in
-    (
+    let each : non_zero_u64_get c.saturating_add-each.result ≡ range.last + 1 = omega (arith, c.saturating_add-each.ensures, small) in (
       it.back _
           (other.back _
           (all_sizes (side_of range c.args.first it.d other.d) it.chain over _ _ (omega (arith, c.min.ensures, c.get.ensures.value, each))
@@ -29,8 +28,7 @@ loop-alloc-preserved g c =
     let other = one_of _ _ range.dimension (g.met.G.ChunkGridTraits.chained c.args.other.now) c.requires.other in
     let (so_far, within) = c.loop-alloc.invariant in
     let each = c.get-in-loop-alloc-2.ensures.value in
-    let half = div-le_self (c.get-in-loop-alloc-2.result - 1) 2 in
-    (
+    let half = div-le_self (c.get-in-loop-alloc-2.result - 1) 2 in (
       it.back _
           (other.back _
           (one_more (side_of range c.args.first it.d other.d) it.chain (it.at _ c.requires.range).over c.loop-alloc.sizes.items _ c.in_ok-size.size
@@ -44,6 +42,11 @@ returns g c = c.loop-alloc.invariant.0
 
 pub loop-alloc-smaller : goal.loop-alloc-smaller
 loop-alloc-smaller g c =
-    omega
-    (arith, c.saturating_add-each-in-loop-alloc.ensures, c.get-in-loop-alloc-2.ensures.value, c.loop-alloc-test.true, c.get-in-loop-alloc.ensures.value,
-    div-mul-le_self (c.get-in-loop-alloc-2.result - 1) 2)
+    omega (
+      arith,
+      c.saturating_add-each-in-loop-alloc.ensures,
+      c.get-in-loop-alloc-2.ensures.value,
+      c.loop-alloc-test.true,
+      c.get-in-loop-alloc.ensures.value,
+      div-mul-le_self (c.get-in-loop-alloc-2.result - 1) 2,
+    )

@@ -32,7 +32,12 @@ returns g c =
     let long = c.requires.grouped.long in
     let all = sides source target copied.first.now grouped.elements.now.start grouped.elements.now.shape grouped.cover.start grouped.last.items in
     let whole = take_all c.loop-dimension.dimension all
-    (omega (arith, c.loop-dimension-test.false, long.each_long, long.target_long,
-    as_many_sides source target copied.first.now grouped.elements.now.start grouped.elements.now.shape grouped.cover.start grouped.last.items many))
+    (omega (
+      arith,
+      c.loop-dimension-test.false,
+      long.each_long,
+      long.target_long,
+      as_many_sides source target copied.first.now grouped.elements.now.start grouped.elements.now.shape grouped.cover.start grouped.last.items many,
+    ))
     in
     rw whole at c.loop-dimension.invariant
