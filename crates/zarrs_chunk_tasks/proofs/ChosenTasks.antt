@@ -11,7 +11,7 @@ use Rattle.zarrs_chunks.specs.Subsets.{IsCover}
 use Rattle.zarrs_chunk_plan.specs.Counts.{product}
 use Rattle.zarrs_chunk_plan.specs.Region.{CanBeMoved, moved}
 use Rattle.zarrs_chunk_plan.proofs.Plans.{covers_some}
-use Rattle.zarrs_chunk_tasks.specs.Cheapest.{AreTasksOf, HoldAtMost, IsChosen, IsCost, IsExactIfFew, NoneFits, NoneIsCheaper, most_choices, most_sizes}
+use Rattle.zarrs_chunk_tasks.specs.Cheapest.{AreTasksOf, HoldAtMost, IsChosen, IsCost, IsExactIfFew, NoneFits, NoneIsCheaper, OnesAreNoCheaper, most_choices, most_sizes}
 use Rattle.zarrs_chunk_tasks.specs.Counts.{AreTaskCounts, greatest_of_128, in_all}
 use Rattle.zarrs_chunk_tasks.specs.Tasks.{HasTasks}
 use Rattle.zarrs_chunk_tasks.specs.declared.cheapest.CheapestTasks.{CheapestTasks}
@@ -38,6 +38,18 @@ min_comm m n = omega arith
 
 is_some : {X : Type 0} {x : X} → Some x ≡ None → ⊥
 is_some same = subst (λ o. MatchOption o ⊥ (λ _. Unit {0})) same tt
+
+some_each : (choice : List Size) → AllByRecursion (λ k. 0 < k) (map each_of choice)
+some_each [] = tt
+some_each (s ∷ choice) = (s.each.ok, some_each choice)
+
+all_ones : (ones : List NonZeroU64) (choice : List Size) → length ones ≡ length choice → AllByRecursion (λ one. non_zero_u64_get one ≡ 1) ones
+    → AllByRecursion (λ (s : Size). each_of s ≡ 1) choice → numbers ones ≡ map each_of choice
+all_ones [] [] many here there = refl
+all_ones (k ∷ ones) (s ∷ choice) many here there =
+    ap₂ (λ n ns. n ∷ ns) (here.0 ∙ sym there.0) (all_ones ones choice (omega arith) here.1 there.1)
+all_ones [] (_ ∷ _) many here there = absurd (omega arith)
+all_ones (_ ∷ _) [] many here there = absurd (omega arith)
 
 -- the counts that tell what tasks cost
 abbrev cost_by : (worth : ℕ) → List CountsAlong → ℕ
@@ -157,6 +169,22 @@ module _ (source target : List Dimension) (region : Box) (at : List ℕ) (can : 
           let reads = times (product (map (λ (s : Size). s.chunks) best.choice)) (in_all (λ counts. counts.chunks_read) along) worth worth best.reads (omega arith) in
           (cost_by worth along, costs each many tasks are worth, omega (arith, cost_is, least, cost_of_choice best.choice, reads, best.decodes))
 
+      no_dearer : OnesAreNoCheaper source target region at worth chosen.cost
+      no_dearer ones many each_one tasks are =
+          let short = shortest all rows (map each_of it.choice) tried (some_each it.choice)
+          (length-map it.choice each_of ∙ has_sizes.long) in
+          let counts_are = sizes_of short.choice short.is_choice in
+          let fits : held short.choice ≤ room = omega (arith, short.short, has_sizes.largest_is, it.fits) in
+          let least = it.least short.choice short.is_choice fits in
+          let same : numbers ones ≡ map each_of short.choice =
+          all_ones ones short.choice (many ∙ same_many ∙ sym all_many ∙ sym counts_are.long) each_one short.ones
+          in
+          let cost : cost_by worth (all_counts all (numbers ones))
+          ≡ product (map (λ (s : Size). s.chunks) short.choice) * worth + product (map (λ (s : Size). s.elements) short.choice) =
+          ap (λ numbers. cost_by worth (all_counts all numbers)) same ∙ ap₂ (λ a b. a * worth + b) counts_are.chunks_are counts_are.elements_are
+          in
+          (cost_by worth (all_counts all (numbers ones)), costs ones many tasks are worth, omega (arith, cost_is, least, cost_of_choice short.choice, cost))
+
       pub chosen_is : IsChosen source target region at largest most worth chosen
       chosen_is = record {
         long = chosen_long;
@@ -164,6 +192,7 @@ module _ (source target : List Dimension) (region : Box) (at : List ℕ) (can : 
             hold each_chosen chosen_long tasks are largest most
             (subst (λ n. n + largest ≤ most) (sym longest_is) ((fits_room (held it.choice) has_sizes.some).0 it.fits));
         costs = λ tasks are. (cost_by worth (all_counts all (numbers each_chosen)), costs each_chosen chosen_long tasks are worth, told_cost);
+        no_dearer = no_dearer;
         cheapest = none_cheaper;
       }
 

@@ -217,8 +217,15 @@ module _ (side : Side) where
         first_size = starts.first_size;
         others = starts.others ++ size ∷ [];
         are = put ∙ ap (λ sizes. sizes ++ size ∷ []) starts.are;
+        one = starts.one;
         least = starts.least;
-      }) (λ (same, _). record { first_size = starts.first_size; others = starts.others; are = same ∙ starts.are; least = starts.least }) keeps
+      }) (λ (same, _). record {
+        first_size = starts.first_size;
+        others = starts.others;
+        are = same ∙ starts.are;
+        one = starts.one;
+        least = starts.least;
+      }) keeps
 
   few_kept : (before after : List Size) (size : Size) → Keeps before size after → length after ≤ length before + 1
   few_kept before after size keeps =
@@ -248,6 +255,7 @@ module _ (side : Side) where
             first_size = size;
             others = [];
             are = put;
+            one = omega (arith, each);
             least = λ k some.
                 let one : each_of size ≡ 1 = omega (arith, each) in
                 omega (arith, is.largest, ap (largest_by side) one, one_is_least side chain over k some);

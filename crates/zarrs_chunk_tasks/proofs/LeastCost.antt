@@ -76,21 +76,23 @@ chosen_sizes (side ∷ all) (row ∷ rows) [] are is = absurd is
 chosen_sizes [] (_ ∷ _) choice are is = absurd are
 chosen_sizes (_ ∷ _) [] choice are is = absurd are
 
--- there is one whose groups are no longer than those of any numbers of chunks
+-- the choice of one chunk along each dimension has groups that are no longer than those of any numbers of chunks
 pub record IsShort (all : List Side) (rows : List (List Size)) (each : List ℕ) : Type 0 where
   pub choice : List Size
   pub is_choice : IsChoice rows choice
+  pub ones : AllByRecursion (λ (s : Size). each_of s ≡ 1) choice
   pub short : held choice ≤ largest (all_counts all each)
 
 pub shortest : (all : List Side) (rows : List (List Size)) (each : List ℕ) → AllZip AreTried all rows → AllByRecursion (λ k. 0 < k) each → length each ≡ length all
     → IsShort all rows each
-shortest [] [] [] are some many = record { choice = []; is_choice = tt; short = omega arith }
+shortest [] [] [] are some many = record { choice = []; is_choice = tt; ones = tt; short = omega arith }
 shortest (side ∷ all) (row ∷ rows) (k ∷ each) are some many =
     let rest = shortest all rows each are.1 some.1 (omega arith) in
     let least = are.0.least in
     record {
       choice = least.first_size ∷ rest.choice;
       is_choice = (rw least.are (0, omega arith, refl), rest.is_choice);
+      ones = (least.one, rest.ones);
       short = times least.first_size.largest _ (held rest.choice) _ (least.least k some.0) rest.short;
     }
 shortest [] [] (_ ∷ _) are some many = absurd (omega arith)

@@ -91,7 +91,7 @@ part_is_tried side row part are is =
     let (rest, same) = is.starts least.first_size least.others least.are in
     record {
       are = all_of_part (IsSize side) row part are.are is.among;
-      least = record { first_size = least.first_size; others = rest; are = same; least = least.least };
+      least = record { first_size = least.first_size; others = rest; are = same; one = least.one; least = least.least };
     }
 
 pub parts_are_tried : (all : List Side) (rows parts : List (List Size)) → AllZip AreTried all rows → AllZip IsPart rows parts → AllZip AreTried all parts

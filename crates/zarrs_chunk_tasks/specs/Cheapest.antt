@@ -65,12 +65,20 @@ module _ (source target : List Dimension) (region : Box) (at : List ℕ) where
   NoneFits largest most =
       (each : List NonZeroU64) → length each ≡ length source → (tasks : List Task) → AreTasksOf each tasks → ¬ HoldAtMost largest most tasks
 
-  -- The chosen tasks fit, and cost what the choice says, up to the greatest number. If the choice is exact, no tasks that fit cost less.
+  -- tasks of one chunk each don't cost less than `cost`
+  abbrev pub OnesAreNoCheaper : (read_elements cost : ℕ) → Type 0
+  OnesAreNoCheaper read_elements cost =
+      (ones : List NonZeroU64) → length ones ≡ length source → AllByRecursion (λ one. non_zero_u64_get one ≡ 1) ones → (tasks : List Task)
+      → AreTasksOf ones tasks → (its_cost : ℕ) × IsCost source read_elements tasks its_cost × (cost ≤ its_cost)
+
+  -- The chosen tasks fit, and cost what the choice says, up to the greatest number. They cost no more than tasks of one chunk each. If the choice is exact,
+  -- no tasks that fit cost less.
   pub record IsChosen (largest most read_elements : ℕ) (chosen : CheapestTasks) : Type 0 where
     pub long : length chosen.task_chunks.items ≡ length source
     pub fits : (tasks : List Task) → AreTasksOf chosen.task_chunks.items tasks → HoldAtMost largest most tasks
     pub costs : (tasks : List Task) → AreTasksOf chosen.task_chunks.items tasks
         → (cost : ℕ) × IsCost source read_elements tasks cost × (chosen.cost ≡ min cost greatest_of_128)
+    pub no_dearer : OnesAreNoCheaper read_elements chosen.cost
     pub cheapest : IsTrue chosen.is_exact → NoneIsCheaper largest most read_elements chosen.cost
 
   -- What is found of a region that isn't empty: the cheapest tasks, or none, if none fit.

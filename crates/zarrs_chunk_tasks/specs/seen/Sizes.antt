@@ -87,11 +87,12 @@ pub record Beats (side : Side) (k : ℕ) (s : Size) : Type 0 where
 abbrev pub IsBeaten : Side → List Size → (k : ℕ) → Type 0
 IsBeaten side sizes k = (s : Size) × Contains sizes s × Beats side k s
 
--- the first size has the shortest groups
+-- the first size is one chunk, which makes the shortest groups
 pub record StartsWithLeast (side : Side) (sizes : List Size) : Type 0 where
   pub first_size : Size
   pub others : List Size
   pub are : sizes ≡ first_size ∷ others
+  pub one : each_of first_size ≡ 1
   pub least : (k : ℕ) → 0 < k → first_size.largest ≤ largest_by side k
 
 -- the one size has groups that are no longer, and reads and decodes no more
