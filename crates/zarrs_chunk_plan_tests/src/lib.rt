@@ -6,6 +6,7 @@
 //! |---|---|
 //! | `rows` | the arrays that are planned, the boxes of their elements, and the lines of parts |
 //! | `tasks` | the tasks of a copy |
+//! | `cheapest` | the cheapest tasks of a copy |
 //! | `walks` | walks that stay ended, and that go to any part or group |
 //! | `largest` | the shapes of largest chunks |
 //! | `marks` | which chunks of a plan a store has |
@@ -13,6 +14,8 @@
 //! | `laws` | the laws |
 #![tactic(auto)]
 
+#[cfg(test)]
+mod cheapest;
 #[cfg(test)]
 mod largest;
 #[cfg(test)]

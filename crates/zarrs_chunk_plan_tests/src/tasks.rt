@@ -19,7 +19,7 @@ use zarrs_chunk_tasks::{
 use zarrs_chunks::RegularChunkGrid;
 
 /// The index in the target that the first element goes to.
-const AT: [u64; 5] = [0, 0, 0, 0, 1];
+pub(crate) const AT: [u64; 5] = [0, 0, 0, 0, 1];
 
 /// Appends the line of a task: its group, where its boxes begin, and the shape of its buffer.
 fn append_task(alloc: Global, lines: &mut String, task: &Task) -> Result<(), Fail> {
@@ -44,7 +44,7 @@ fn lines_of(alloc: Global, walk: &mut Tasks<'_, RegularChunkGrid>) -> Result<Str
 }
 
 /// Twelve elements in chunks of four, and nine in chunks of three.
-fn two_rows(alloc: Global) -> Result<(Stored, Stored), Fail> {
+pub(crate) fn two_rows(alloc: Global) -> Result<(Stored, Stored), Fail> {
     Ok((row(alloc, 12, 4)?, row(alloc, 9, 3)?))
 }
 
@@ -247,7 +247,7 @@ fn many_tasks_are_counted(rt: HostRuntime) -> Result<(), Fail> {
 }
 
 /// Why a copy has no tasks.
-fn why(
+pub(crate) fn why(
     alloc: Global,
     answer: Result<Tasks<'_, RegularChunkGrid>, Refusal<TasksError>>,
 ) -> Result<String, Fail> {

@@ -82,7 +82,7 @@ module _ (source target : List Dimension) (region : Box) (at : List ℕ) (can : 
         region_starts source target region at (numbers each) (has each many) tasks ∙ length-map source (λ (d : Dimension). d.array_size) ∙ same_many
 
     -- the tasks by groups of so many chunks are counted
-    counts : AreTaskCounts source target tasks along
+    pub counts : AreTaskCounts source target tasks along
     counts =
         counts_by_target source target region at each (has each many) source_chains target_chains is_region is_moved tasks along are
         (group_counts source target each (moved at region) cover region.start target_chains (many ∙ same_many) is_moved some can.in_target is same_many first_many)

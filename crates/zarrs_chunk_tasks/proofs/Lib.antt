@@ -7,6 +7,7 @@ mod GroupSizes
 mod Grouped
 mod LargestChunk
 mod LeastCost
+mod LeastReads
 mod RegularSums
 mod Sharing
 mod SideCounts

@@ -17,7 +17,7 @@ use zarrs_chunk_plan::{RegionError, moved_box};
 use zarrs_chunks::ChunkGridTraits;
 
 /// The choice of tasks that costs the least.
-#[derive(Debug)]
+#[derive(Debug, Drop)]
 pub struct CheapestTasks {
     /// How many neighbouring chunks of the target a group joins, one number a dimension: what [`tasks`](crate::tasks) takes.
     pub task_chunks: Vec<NonZeroU64>,

@@ -12,6 +12,7 @@
 //! | In a rechunking by groups of the target's chunks, each part that a task writes is whole | [`a_rechunking_writes_whole_chunks`] |
 //! | What is counted of a task's box is what its plan reads or writes: its parts, and the elements of their chunks | [`counts_are_those_of_the_parts`] |
 //! | There is a list of tasks for each copy | [`there_are_tasks`] |
+//! | Tasks read no fewer chunks than their largest buffer allows | [`tasks_read_no_fewer`] |
 ghost use Rattle.std.specs.Prelude.{◌≡◌, ◌<◌, ℕ, IsTrue, List, Ok, map};
 ghost use Rattle.std.specs.Int.NonZero.{non_zero_u64_get};
 ghost use Rattle.std.specs.Iterator.{Drains};
@@ -23,6 +24,7 @@ ghost use Rattle.zarrs_chunk_plan.specs.Rechunking.{array_box};
 ghost use Rattle.zarrs_chunk_plan.specs.Region.{LiesIn, moved};
 ghost use Rattle.zarrs_chunk_plan.specs.Shares.{numbered_share};
 ghost use Rattle.zarrs_chunk_tasks.specs.Counts.{AreMet, parts_met};
+ghost use Rattle.zarrs_chunk_tasks.specs.Limits.{HasAtMost, HasPart, OfParts, ReadNoFewer};
 ghost use Rattle.zarrs_chunk_tasks.specs.Tasks.{AreTasks, AreTasksBySource, AreTasksByTarget, AreTheCopy, GoesByBuffer, HasTasks, Moves};
 ghost use Rattle.zarrs_chunk_tasks.specs.seen.Tasks.{ArePlanned, AreTasksToCome, CanGive, GivesTask};
 
@@ -156,3 +158,26 @@ pub fn counts_are_those_of_the_parts<G: ChunkGridTraits, E: ChunkKeyEncodingTrai
         → IsPlan (G.dimensions array.now.grid) (E.is_key array.now.encoding) elements parts
         → met ≡ parts_met parts }
 {}
+
+/// Tasks read no fewer chunks than their largest buffer allows, whatever numbers of chunks they take: `chunks * parts * buffer >= elements * larger`. There are
+/// `chunks` reads, the largest buffer has `buffer` elements, and `elements` are copied. Along each dimension no chunk of the source has more than a part of what
+/// is copied, and some chunk of the target has all of another part. `parts` is the product of the former, and `larger` is the product of the larger ones of both.
+pub fn tasks_read_no_fewer<G: ChunkGridTraits, H: ChunkGridTraits>(
+    source: &G,
+    target: &H,
+    region: &ArraySubset,
+    task_chunks: &[NonZeroU64],
+)
+    ensures { (at : List ℕ) (tasks : List Task) (parts others : List ℕ)
+        → HasTasks (array_sizes (G.dimensions source.now)) (array_sizes (H.dimensions target.now))
+        region.now at (map non_zero_u64_get task_chunks.now)
+        → IsBox (moved at region.now)
+        → AreTasksByTarget (H.dimensions target.now) (map non_zero_u64_get task_chunks.now)
+        region.now at tasks
+        → OfParts HasAtMost (G.dimensions source.now) parts region.now.start region.now.shape
+        → OfParts HasPart (H.dimensions target.now) others at region.now.shape
+        → ReadNoFewer (G.dimensions source.now) (H.dimensions target.now) region.now.shape parts
+        others tasks }
+{
+    region.is_a_box();
+}
