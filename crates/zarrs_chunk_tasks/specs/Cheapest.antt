@@ -33,10 +33,11 @@ pub record IsCost (source : List Dimension) (read_elements : ℕ) (tasks : List 
 abbrev pub HoldAtMost : (chunk most : ℕ) → List Task → Type 0
 HoldAtMost chunk most = AllByRecursion (λ (task : Task). product task.source.shape + chunk ≤ most)
 
--- up to which number each number of chunks is tried, and how many choices of one number a dimension are compared
+-- up to which number each number of chunks is tried along a dimension
 abbrev pub most_sizes : ℕ
 most_sizes = 65536
 
+-- how many choices of one number for each dimension are compared at most
 abbrev pub most_choices : ℕ
 most_choices = 16777216
 
@@ -94,7 +95,7 @@ pub record IsExactIfFew (target : List Dimension) (region : Box) (at : List ℕ)
   pub exact : AllByRecursion (λ n. n ≤ most_sizes) (ends cover.start cover.shape) → product (ends cover.start cover.shape) ≤ most_choices
       → IsTrue chosen.is_exact
 
--- no tasks cost nothing
+-- the tasks of an empty region cost nothing
 pub record IsOfNoTasks (source : List Dimension) (chosen : CheapestTasks) : Type 0 where
   pub long : length chosen.task_chunks.items ≡ length source
   pub cost : chosen.cost ≡ 0
