@@ -9,6 +9,7 @@ use Rattle.zarrs_chunks.specs.Walks.{chunks_in, counted_from}
 use Rattle.zarrs_chunks.proofs.ChunksInBoxes.{are_those_inside}
 use Rattle.zarrs_chunks.proofs.Chains.{in_chain}
 use Rattle.zarrs_chunks.proofs.Covers.{head_some, tail_some}
+use Rattle.zarrs_chunk_parts.specs.Plan.{Covers}
 use Rattle.zarrs_chunk_plan.specs.Counts.{product}
 use Rattle.zarrs_chunk_plan.specs.Region.{LiesIn}
 use Rattle.zarrs_chunk_plan.specs.seen.Sources.{met, met_by, met_in, taken_sizes, taken_starts, taken_from}
@@ -92,10 +93,19 @@ map_of_map g f [] = refl
 map_of_map g f (x ∷ xs) = ap (λ zs. g (f x) ∷ zs) (map_of_map g f xs)
 
 -- a chunk that holds an index is as long as its edges
-pub has_edges : (ds : List Dimension) (chunk index : List ℕ) → InBox ds chunk index → IsShape ds chunk (met_by (edges ds) chunk)
+has_edges : (ds : List Dimension) (chunk index : List ℕ) → InBox ds chunk index → IsShape ds chunk (met_by (edges ds) chunk)
 has_edges =
     by_dimension Holds (λ ds chunk index. IsShape ds chunk (met_by (edges ds) chunk)) tt
     (λ d c i ds chunk index here rest. (record { chunk = here.chunk; edge = omega (arith, here.from, here.below) }, rest))
+
+-- and so is each chunk of a cover
+pub shapes_of_cover : (ds : List Dimension) (b cover : Box) → IsBox cover → Covers ds b cover
+    → AllZip (IsShape ds) (chunks_in cover) (map (met_by (edges ds)) (chunks_in cover))
+shapes_of_cover ds b cover is_box covers =
+    all_zip_map (IsShape ds) (met_by (edges ds)) (chunks_in cover)
+    (all_of_each (λ chunk. IsShape ds chunk (met_by (edges ds) chunk)) (chunks_in cover)
+    (λ chunk among.
+    let (index, box, _) = (covers.named chunk).0 ((are_those_inside cover is_box chunk).0 among) in has_edges ds chunk index box))
 
 pub box_is_met : (ds : List Dimension) (b : Box) → AllByRecursion IsChain ds → IsBox b → (¬ IsEmptyBox b) → LiesIn b (array_sizes ds)
     → AreMet ds b (product (of_ranges met ds b.start b.shape), product (of_ranges whole ds b.start b.shape))
@@ -110,11 +120,7 @@ box_is_met ds b chains is_box some lies =
       is_cover = covers;
       chunks = in_box_many cover ∙ ap product long.chunks;
       shapes = map (met_by (edges ds)) (chunks_in cover);
-      are_shapes =
-          all_zip_map (IsShape ds) (met_by (edges ds)) (chunks_in cover)
-          (all_of_each (λ chunk. IsShape ds chunk (met_by (edges ds) chunk)) (chunks_in cover)
-          (λ chunk among.
-          let (index, box, _) = (covers.named chunk).0 ((are_those_inside cover is.is_box chunk).0 among) in has_edges ds chunk index box));
+      are_shapes = shapes_of_cover ds b cover is.is_box covers;
       elements =
           ap sum (map_of_map product (met_by (edges ds)) (chunks_in cover))
           ∙ ap sum (met_by_all (edges ds) cover.start cover.shape (omega (arith, firsts, edges_long ds)) (omega (arith, firsts, edges_long ds, is.is_box.lengths)))

@@ -6,25 +6,24 @@ use Rattle.std.proofs.lemmas.Bool.{cases_lt}
 use Rattle.std.proofs.lemmas.List.{length-map, map-append, take_all, take_more}
 use Rattle.std.specs.List.{AllByRecursion, range_with_len}
 use Rattle.zarrs_chunk_base.specs.ArraySubset.{Box, IsBox, IsEmptyBox, ends, lasts}
-use Rattle.zarrs_chunk_base.specs.Dimension.{Dimension, HasEdge, Holds, InBox, IsChain, IsShape, array_sizes}
+use Rattle.zarrs_chunk_base.specs.Dimension.{Dimension, HasEdge, Holds, InBox, IsChain, array_sizes}
 use Rattle.zarrs_chunk_base.specs.Greatest.{AllFit, greatest}
 use Rattle.zarrs_chunk_base.proofs.InEach.{length_numbers, length_values}
 use Rattle.zarrs_chunk_axes.specs.Along.{Along, IsRegular}
 use Rattle.zarrs_chunks.specs.Subsets.{IsCover}
 use Rattle.zarrs_chunks.specs.Walks.{chunks_in}
 use Rattle.zarrs_chunks.proofs.Chains.{no_later}
-use Rattle.zarrs_chunks.proofs.ChunksInBoxes.{are_those_inside}
 use Rattle.zarrs_chunks.proofs.Covers.{head_some, tail_some}
 use Rattle.zarrs_chunk_parts.specs.Plan.{Covers}
 use Rattle.zarrs_chunk_plan.specs.Counts.{product}
 use Rattle.zarrs_chunk_plan.specs.Region.{EndWithin, LiesIn}
 use Rattle.zarrs_chunk_plan.specs.seen.Sources.{met_by, met_in}
 use Rattle.zarrs_chunk_plan.specs.seen.Used.{HoldsSome}
-use Rattle.zarrs_chunk_plan.proofs.Plans.{all_of_each, covers_some}
+use Rattle.zarrs_chunk_plan.proofs.Plans.{covers_some}
 use Rattle.zarrs_chunk_plan.proofs.Products.{greatest_of, greatest_of_products, met_by_all}
 use Rattle.zarrs_chunk_tasks.specs.Cheapest.{IsLargestChunk}
 use Rattle.zarrs_chunk_tasks.specs.seen.LargestChunk.{IsLongestOf}
-use Rattle.zarrs_chunk_tasks.proofs.CountsOfEach.{all_zip_map, edges, has_edges, map_of_map, tables_long}
+use Rattle.zarrs_chunk_tasks.proofs.CountsOfEach.{edges, map_of_map, shapes_of_cover, tables_long}
 use Rattle.zarrs_chunk_tasks.proofs.Grouped.{next_group}
 use Rattle.zarrs_chunk_tasks.proofs.RegularSums.{ends as chunk_ends, starts}
 use Rattle.zarrs_chunk_tasks.proofs.SumsAlong.{greatest_more}
@@ -169,11 +168,7 @@ module _ (ds : List Dimension) (b cover : Box) (chains : AllByRecursion IsChain 
       cover = cover;
       is_cover = covers;
       shapes = map (met_by (edges ds)) (chunks_in cover);
-      are_shapes =
-          all_zip_map (IsShape ds) (met_by (edges ds)) (chunks_in cover)
-          (all_of_each (λ chunk. IsShape ds chunk (met_by (edges ds) chunk)) (chunks_in cover)
-          (λ chunk among.
-          let (index, box, _) = (covers.named chunk).0 ((are_those_inside cover is.is_box chunk).0 among) in has_edges ds chunk index box));
+      are_shapes = shapes_of_cover ds b cover is.is_box covers;
       largest_is =
           ap greatest_of (map_of_map product (met_by (edges ds)) (chunks_in cover))
           ∙ ap greatest_of (met_by_all (edges ds) cover.start cover.shape (omega (arith, first_long, counters_long)) (omega (arith, many_long, counters_long)))
