@@ -1,7 +1,7 @@
 //! The cheapest tasks: rows of copies and bounds, and a search of all choices.
 //!
-//! No row has its choice from the call itself. Where nothing else is said, an exhaustive search with `tools/chunk_tasks` gave it: of choices that cost the same
-//! it is the one with the smallest numbers, those of the first dimensions before the others.
+//! The expected choices don't come from the call itself. An exhaustive search with `tools/chunk_tasks` gave them, if nothing else is said. If choices cost the
+//! same, it takes the one with the smallest numbers, and the first dimension counts first.
 ghost use Rattle.std.specs.Prelude.{◌<◌};
 
 use crate::rows::{check_text, edges_of, some_of};
@@ -151,7 +151,7 @@ const TILES: Row<'static> = Row {
     ],
 };
 
-/// Of the sizes that fit in 10 elements, groups of 7 read 7 chunks that have 24 elements in all, and groups of 8 read 6 that have 25.
+/// Both fit in 10 elements: groups of 7 read 7 chunks that have 24 elements in all, and groups of 8 read 6 chunks that have 25.
 const UNEVEN: Row<'static> = Row {
     source: (&[20], Chunks::Listed(&[&[6, 2, 5, 2, 5]])),
     target: (&[20], Chunks::Regular(&[1])),
@@ -399,7 +399,8 @@ const SIXTEEN_COLUMNS: Row<'static> = Row {
     ],
 };
 
-/// Each array has as many chunks as are tried along a dimension, or more, or its tasks cost about as much as can be told. What is chosen was found by hand.
+/// Each array has as many chunks as are tried along a dimension, or more, or its tasks cost about as much as the greatest number. The choices were found by
+/// hand.
 #[test]
 fn a_choice_tells_whether_it_is_exact(rt: HostRuntime) -> Result<(), Fail> {
     for row in [
@@ -443,7 +444,7 @@ fn told_by(counts: &[CountsAlong], worth: u64) -> (u128, u64) {
     (cost.saturating_add(decoded), largest)
 }
 
-/// What the tasks by groups of so many chunks cost. `None` where they hold too many elements, each with a chunk of `chunk` elements.
+/// What the tasks by groups of `each` chunks cost. `None` if a buffer and a chunk of `chunk` elements are too large.
 fn cost_of(
     alloc: Global,
     copied: &Copied,
@@ -501,7 +502,7 @@ fn largest_of_both(alloc: Global, copied: &Copied) -> Result<u64, Fail> {
     Ok(read.max(written))
 }
 
-/// Up to so many chunks a task are gone through. No array that is drawn has more elements along a dimension.
+/// Up to which number all numbers of chunks a task are gone through. No array that is drawn has more elements along a dimension.
 const SIZES: u64 = 14;
 
 /// The least cost of all choices that fit.
@@ -526,7 +527,7 @@ fn least_cost(
     Ok(least)
 }
 
-/// Under a bound the choice costs as little as any that fits, and as much as it tells. There is none where nothing fits.
+/// Under a bound the choice costs as little as any that fits, and as much as it says. Nothing is chosen if nothing fits.
 fn check_bound(
     rt: &(impl Abort + AllocGlobal),
     copied: &Copied,
@@ -559,7 +560,7 @@ struct Drawn {
 }
 
 impl Drawn {
-    /// The next number, of so many from 0 on.
+    /// The next number, from 0 to before `end`.
     fn below(&mut self, end: u64) -> u64
         requires { 0 < end }
     {
@@ -607,7 +608,7 @@ fn drawn_starts(alloc: Global, drawn: &mut Drawn, dimensions: usize) -> Result<V
     Ok(numbers)
 }
 
-/// The sizes of an array in which a box of these sizes begins there: up to 3 elements come behind it.
+/// The sizes of an array in which a box of these sizes begins there: up to 3 elements come after it.
 fn drawn_sizes(
     alloc: Global,
     drawn: &mut Drawn,
@@ -688,7 +689,7 @@ fn five_dimensions(alloc: Global, edge: u64) -> Result<RectilinearChunkGrid, Fai
 /// How many elements such a grid has.
 const ELEMENTS: u64 = 211 * 211 * 211 * 211 * 211;
 
-/// Under a bound the choice fits and costs what it tells, and doesn't count as exact.
+/// Under a bound the choice fits and costs what it says, and doesn't count as exact.
 fn check_inexact(
     rt: &(impl Abort + AllocGlobal),
     copied: &Copied,

@@ -16,7 +16,7 @@ use zarrs_chunk_base::{ArraySubset, Refusal};
 use zarrs_chunk_plan::{RegionError, moved_box};
 use zarrs_chunks::ChunkGridTraits;
 
-/// The choice of tasks that costs the least.
+/// How many chunks a task takes, and what the tasks cost.
 #[derive(Debug, Drop)]
 pub struct CheapestTasks {
     /// How many neighbouring chunks of the target a group joins, one number a dimension: what [`tasks`](crate::tasks) takes.

@@ -20,8 +20,10 @@ use std::num::NonZeroU64;
 use zarrs_chunk_base::ArraySubset;
 use zarrs_chunks::ChunkGridTraits;
 
-/// How many choices of one size for each dimension are gone through, at most.
-const MOST_CHOICES: u64 = 1 << 24;
+/// How many choices of one size for each dimension are gone through, at most: 2 to the power of this number.
+const CHOICE_BITS: u64 = 24;
+
+const MOST_CHOICES: u64 = 1 << CHOICE_BITS;
 
 /// The sizes that are tried.
 #[derive(Drop)]
@@ -148,11 +150,12 @@ fn thinned(alloc: Global, rows: &[Vec<Size>]) -> Result<Vec<Vec<Size>>, AllocErr
     Ok(parts)
 }
 
-/// How many sizes of each row are kept at most. If there are d rows, it is 2 to the power of 24 / d, rounded down, so that there are at most 2^24 choices.
+/// How many sizes of each row are kept at most. It is 2 to the power of `CHOICE_BITS` divided by the number of rows, rounded down, so that there are at most
+/// `MOST_CHOICES` choices.
 fn most_each(rows: usize) -> u64
     ensures { 0 < result }
 {
-    1 << (24 / (rows as u64).max(1))
+    1 << (CHOICE_BITS / (rows as u64).max(1))
 }
 
 /// Returns the first size of a row, and every second one after it, or every third one and so on, so that there are no more than `most`.
