@@ -52,10 +52,10 @@ all_ones [] (_ ∷ _) many here there = absurd (omega arith)
 all_ones (_ ∷ _) [] many here there = absurd (omega arith)
 
 -- the counts that tell what tasks cost
-abbrev cost_by : (worth : ℕ) → List CountsAlong → ℕ
+abbrev pub cost_by : (worth : ℕ) → List CountsAlong → ℕ
 cost_by worth along = in_all (λ counts. counts.chunks_read) along * worth + in_all (λ counts. counts.elements_decoded) along
 
-abbrev longest_by : List CountsAlong → ℕ
+abbrev pub longest_by : List CountsAlong → ℕ
 longest_by = in_all (λ counts. counts.largest_task)
 
 module _ (source target : List Dimension) (region : Box) (at : List ℕ) (can : CanBeMoved (array_sizes source) (array_sizes target) region at)
@@ -87,7 +87,7 @@ module _ (source target : List Dimension) (region : Box) (at : List ℕ) (can : 
         counts_by_target source target region at each (has each many) source_chains target_chains is_region is_moved tasks along are
         (group_counts source target each (moved at region) cover region.start target_chains (many ∙ same_many) is_moved some can.in_target is same_many first_many)
 
-    costs : (worth : ℕ) → IsCost source worth tasks (cost_by worth along)
+    pub costs : (worth : ℕ) → IsCost source worth tasks (cost_by worth along)
     costs worth = record {
       reads = counts.reads;
       are_reads = counts.are_reads;
@@ -98,7 +98,7 @@ module _ (source target : List Dimension) (region : Box) (at : List ℕ) (can : 
     hold : (chunk most : ℕ) → longest_by along + chunk ≤ most → HoldAtMost chunk most tasks
     hold chunk most fits = each_fits (λ (task : Task). product task.source.shape) chunk most tasks (subst (λ n. n + chunk ≤ most) counts.largest_task fits)
 
-    longest_fits : (chunk most : ℕ) → 0 < longest_by along → HoldAtMost chunk most tasks → longest_by along + chunk ≤ most
+    pub longest_fits : (chunk most : ℕ) → 0 < longest_by along → HoldAtMost chunk most tasks → longest_by along + chunk ≤ most
     longest_fits chunk most any held_at_most =
         subst (λ n. n + chunk ≤ most) (sym counts.largest_task)
         (all_fit (λ (task : Task). product task.source.shape) chunk most tasks held_at_most (subst (λ n. 0 < n) counts.largest_task any))

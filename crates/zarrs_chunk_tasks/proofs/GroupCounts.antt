@@ -37,7 +37,7 @@ use Rattle.zarrs_chunk_tasks.proofs.SumsAlong.{One}
 -- ---- one of the dimensions
 
 -- the first list of a box that isn't empty lies in it
-first_within : (start shape : List ℕ) → length start ≡ length shape → (¬ Contains shape 0) → AreWithin start shape start
+pub first_within : (start shape : List ℕ) → length start ≡ length shape → (¬ Contains shape 0) → AreWithin start shape start
 first_within [] [] e some = tt
 first_within (a ∷ start) (n ∷ shape) e some =
     let here = head_some n shape some in
@@ -301,13 +301,13 @@ groups_take ds each elements cover group_box chains many is_box some lies is is_
     (λ group inside. meets_take (groups ds each) elements group ((meets_as_chunk ds each chains many elements group).0 ((named group).0 inside))) within
 
 -- what holds of a list of ranges holds of the one at a number
-end_fits : (start shape : List ℕ) (k : ℕ) → AllFit (ends start shape) → k < length start → k < length shape
+pub end_fits : (start shape : List ℕ) (k : ℕ) → AllFit (ends start shape) → k < length start → k < length shape
     → slice_index_or start k 0 + slice_index_or shape k 0 ≤ greatest
 end_fits (s ∷ start) (n ∷ shape) zero fit one other = fit.0
 end_fits (s ∷ start) (n ∷ shape) (suc k) fit one other = end_fits start shape k fit.1 (omega arith) (omega arith)
 end_fits _ _ k fit one other = absurd (omega arith)
 
-lies_at : (ds : List Dimension) (start shape : List ℕ) (k : ℕ) → EndWithin start shape (array_sizes ds) → k < length ds
+pub lies_at : (ds : List Dimension) (start shape : List ℕ) (k : ℕ) → EndWithin start shape (array_sizes ds) → k < length ds
     → Along (λ d. slice_index_or start k 0 + slice_index_or shape k 0 ≤ d.array_size) ds k
 lies_at (d ∷ ds) (s ∷ start) (n ∷ shape) zero lies within = lies.0
 lies_at (d ∷ ds) (s ∷ start) (n ∷ shape) (suc k) lies within = lies_at ds start shape k lies.1 (omega arith)

@@ -40,7 +40,7 @@ pub longest_more : (d : Dimension) (first many longest edge after : ℕ) → IsL
 longest_more d first many longest edge after is has after_is = omega (arith, greatest_more (edge_of d) first many, is, has.edge, after_is)
 
 -- before a chunk that holds an element of the array all chunks of a regular dimension have its edge
-edge_before : (d : Dimension) → IsChain d → (edge : ℕ) → 0 < edge → IsRegular d edge → (last c : ℕ) → HoldsSome d last → c < last → edge_of d c ≡ edge
+pub edge_before : (d : Dimension) → IsChain d → (edge : ℕ) → 0 < edge → IsRegular d edge → (last c : ℕ) → HoldsSome d last → c < last → edge_of d c ≡ edge
 edge_before d chain edge some regular last c (has, any, within) before =
     let i = d.start last in
     let here : Holds d last i = record { chunk = has; from = omega arith; below = any } in

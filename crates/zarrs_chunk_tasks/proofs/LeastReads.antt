@@ -24,7 +24,8 @@ use Rattle.zarrs_chunk_tasks.specs.declared.counts.CountsAlong.{CountsAlong}
 use Rattle.zarrs_chunk_tasks.specs.declared.task.Task.{Task}
 use Rattle.zarrs_chunk_tasks.specs.seen.Counts.{indices, of_group}
 use Rattle.zarrs_chunk_tasks.specs.seen.Grouped.{grouped}
-use Rattle.zarrs_chunk_tasks.specs.seen.Sizes.{IsSide, Side, all_counts, chunks_by, groups_met, largest_by, sides}
+use Rattle.zarrs_chunk_tasks.specs.seen.Sizes.{IsSide, Side, all_counts, by_groups, chunks_by, groups_met, largest_by, sides}
+use Rattle.zarrs_chunk_tasks.proofs.CountsOfEach.{Count}
 use Rattle.zarrs_chunk_tasks.proofs.GroupSizes.{greatest_is, in_order, taking}
 use Rattle.zarrs_chunk_tasks.proofs.Grouped.{grouped_chain, last, last_in_group}
 use Rattle.zarrs_chunk_tasks.proofs.LeastCost.{times}
@@ -88,37 +89,41 @@ module _ (side : Side) (is : IsSide side) (chain : IsChain side.source) (within 
   abbrev longest : ℕ → ℕ
   longest j = taken g side.at side.size (t j)
 
-  abbrev read : ℕ → ℕ
-  read j = of_group met side.source g side.first side.at side.size (t j)
+  -- what is counted of a group in the source
+  abbrev counted : Count → ℕ → ℕ
+  counted count j = of_group count side.source g side.first side.at side.size (t j)
 
-  takes_at : (j : ℕ) → j < groups_met side k → TakesSome g side.at side.size (t j)
+  abbrev read : ℕ → ℕ
+  read = counted met
+
+  pub takes_at : (j : ℕ) → j < groups_met side k → TakesSome g side.at side.size (t j)
   takes_at j less = (taking side.target is.chain side.at side.size side.low side.high is.over k some).take (t j) (omega arith) (omega arith)
 
-  -- where no group takes more than its chunks times a number, the range has no more indices than all chunks times it
-  module _ (part : ℕ) (each : (j : ℕ) → j < groups_met side k → longest j ≤ read j * part) where
+  -- where no group takes more than what is counted of it times a number, the range has no more indices than all that is counted times it
+  module _ (count : Count) (part : ℕ) (each : (j : ℕ) → j < groups_met side k → longest j ≤ counted count j * part) where
     so_far : (j : ℕ) → j < groups_met side k
         → min (g.end (t j)) (side.at + side.size)
-        ≤ taken_from g side.at (t 0) + sum (map (of_group met side.source g side.first side.at side.size) (range_with_len (side.low / k) (j + 1))) * part
+        ≤ taken_from g side.at (t 0) + sum (map (of_group count side.source g side.first side.at side.size) (range_with_len (side.low / k) (j + 1))) * part
     so_far zero less =
         let here : side.low / k + 0 ≡ side.low / k = omega arith in
-        let one = sum_more (of_group met side.source g side.first side.at side.size) (side.low / k) 0 in
+        let one = sum_more (of_group count side.source g side.first side.at side.size) (side.low / k) 0 in
         let (_, any) = takes_at 0 less in
         rw one (omega (arith, each 0 less, any))
     so_far (suc j) less =
         let before = so_far j (omega arith) in
         let next : t (suc j) ≡ t j + 1 = omega arith in
-        let count : suc j + 1 ≡ j + 1 + 1 = omega arith in
+        let steps : suc j + 1 ≡ j + 1 + 1 = omega arith in
         let place : side.low / k + (j + 1) ≡ t (suc j) = omega arith in
-        let one = sum_more (of_group met side.source g side.first side.at side.size) (side.low / k) (j + 1) in
+        let one = sum_more (of_group count side.source g side.first side.at side.size) (side.low / k) (j + 1) in
         let (has, any) = takes_at (suc j) less in
         let (_, gap) = (grouped_chain side.target k is.chain some).no_gap (t j) (subst (λ c. IsTrue (g.has_chunk c)) next has) in
         let starts : g.start (t (suc j)) ≡ g.end (t j) = ap g.start next ∙ gap in
         let here = each (suc j) less in
-        let all = sum (map (of_group met side.source g side.first side.at side.size) (range_with_len (side.low / k) (j + 1))) in
-        let many = add-mul all (read (suc j)) part in
-        rw (count, one, place) (omega (arith, before, here, starts, any, many))
+        let all = sum (map (of_group count side.source g side.first side.at side.size) (range_with_len (side.low / k) (j + 1))) in
+        let many = add-mul all (counted count (suc j)) part in
+        rw (steps, one, place) (omega (arith, before, here, starts, any, many))
 
-    all_covered : side.size ≤ chunks_by side k * part
+    pub all_covered : side.size ≤ sum (by_groups count side k) * part
     all_covered =
         let order = in_order side.target is.chain side.at side.size side.low side.high is.over in
         let up : side.low / k ≤ side.high / k = (le-div_iff_mul-le some).1 (omega (arith, div-mul-le_self side.low k, order)) in
@@ -139,10 +144,10 @@ module _ (side : Side) (is : IsSide side) (chain : IsChain side.source) (within 
     from : ℕ
     from = side.first + (taken_from g side.at (t j) - side.at)
 
-    low_chunk : (c : ℕ) × (c < side.source.grid_size) × Holds side.source c (side.first + (taken_from g side.at (t j) - side.at))
+    pub low_chunk : (c : ℕ) × (c < side.source.grid_size) × Holds side.source c (side.first + (taken_from g side.at (t j) - side.at))
     low_chunk = chain.reaches _ (omega (arith, (takes_at j less).1, within))
 
-    high_chunk : (c : ℕ) × (c < side.source.grid_size)
+    pub high_chunk : (c : ℕ) × (c < side.source.grid_size)
         × Holds side.source c (side.first + (taken_from g side.at (t j) - side.at) + (longest j - 1))
     high_chunk = chain.reaches _ (omega (arith, (takes_at j less).1, within))
 
@@ -166,14 +171,14 @@ module _ (side : Side) (is : IsSide side) (chain : IsChain side.source) (within 
   -- the groups read a chunk each, and take no more than the longest one
   by_groups_covered : side.size ≤ chunks_by side k * largest_by side k
   by_groups_covered =
-      all_covered (largest_by side k)
+      all_covered met (largest_by side k)
       (λ j less.
       let is_longest = greatest_is (of_group indices side.source g side.first side.at side.size) (side.low / k) (groups_met side k) j less in
       let many = times 1 (read j) (largest_by side k) (largest_by side k) (reads_some j less) (omega arith) in
       omega (arith, is_longest, many))
 
   by_parts_covered : (part : ℕ) → HasAtMost part side.source side.first side.size → side.size ≤ chunks_by side k * part
-  by_parts_covered part at_most = all_covered part (λ j less. reads_parts j less part at_most)
+  by_parts_covered part at_most = all_covered met part (λ j less. reads_parts j less part at_most)
 
   -- the longest group takes no less than any part of a chunk of the target
   part_taken : (part : ℕ) → HasPart part side.target side.at side.size → part ≤ largest_by side k
@@ -220,7 +225,7 @@ pub record IsRead (side : Side) : Type 0 where
   pub within : side.first + side.size ≤ side.source.array_size
 
 -- a product of four factors, by twos
-by_twos : (a b c d : ℕ) → a * b * (c * d) ≡ a * c * (b * d)
+pub by_twos : (a b c d : ℕ) → a * b * (c * d) ≡ a * c * (b * d)
 by_twos a b c d = mul_assoc a b (c * d) ∙ ap (λ n. a * n) (sym (mul_assoc b c d) ∙ ap (λ n. n * d) (mul_comm b c) ∙ mul_assoc c b d) ∙ sym (mul_assoc a c (b * d))
 
 pub least_reads : (source target : List Dimension) (first at shape low high : List ℕ) (each parts others : List ℕ)
@@ -249,7 +254,7 @@ least_reads _ _ _ _ _ _ _ _ _ _ are all_read many some long at_most has =
 
 -- ---- tasks
 
-all_read : (source target : List Dimension) (first at shape low high : List ℕ) → AllByRecursion IsChain source → EndWithin first shape (array_sizes source)
+pub all_read : (source target : List Dimension) (first at shape low high : List ℕ) → AllByRecursion IsChain source → EndWithin first shape (array_sizes source)
     → AllByRecursion IsRead (sides source target first at shape low high)
 all_read (s ∷ source) (t ∷ target) (f ∷ first) (a ∷ at) (n ∷ shape) (l ∷ low) (h ∷ high) chains lies =
     (record { chain = chains.0; within = lies.0 }, all_read source target first at shape low high chains.1 lies.1)

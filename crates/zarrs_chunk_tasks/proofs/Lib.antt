@@ -1,4 +1,5 @@
 mod CheapestChoices
+mod ChosenStages
 mod ChosenTasks
 mod CountsOfEach
 mod GroupBoxes
@@ -8,6 +9,7 @@ mod Grouped
 mod LargestChunk
 mod LeastCost
 mod LeastReads
+mod LeastStage
 mod RegularSums
 mod Sharing
 mod SideCounts
@@ -16,5 +18,7 @@ mod SumsAlong
 mod TaskCounts
 mod TaskLaws
 mod TaskParts
+mod TriedEdges
 mod TriedSizes
+mod TwoStages
 mod WalkedTasks

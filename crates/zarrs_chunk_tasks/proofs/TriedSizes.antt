@@ -178,13 +178,13 @@ rows_more R _ _ _ _ _ _ _ k rows row many within so_far here =
 
 -- ---- a row more
 
-more_rows : (rows : List (Vec Size Global)) (k : ℕ) (row : Vec Size Global) → k < length rows → row ≡ slice_index_or rows k row
+more_rows : {T : Type 0} (rows : List (Vec T Global)) (k : ℕ) (row : Vec T Global) → k < length rows → row ≡ slice_index_or rows k row
     → rows_of (take (k + 1) rows) ≡ rows_of (take k rows) ++ row.items ∷ []
-more_rows rows k row within is =
+more_rows {T} rows k row within is =
     ap rows_of (take_more rows k row within ∙ ap (λ r. take k rows ++ r ∷ []) (sym is))
-    ∙ map-append (λ (r : Vec Size Global). r.items) (take k rows) (row ∷ [])
+    ∙ map-append (λ (r : Vec T Global). r.items) (take k rows) (row ∷ [])
 
-pub choices_more : (rows : List (Vec Size Global)) (k : ℕ) (row : Vec Size Global) (choices after : ℕ) → k < length rows → row ≡ slice_index_or rows k row
+pub choices_more : {T : Type 0} (rows : List (Vec T Global)) (k : ℕ) (row : Vec T Global) (choices after : ℕ) → k < length rows → row ≡ slice_index_or rows k row
     → choices ≡ min greatest (product (map length (rows_of (take k rows)))) → after ≡ min (choices * length row.items) greatest
     → after ≡ min greatest (product (map length (rows_of (take (k + 1) rows))))
 choices_more rows k row choices after within is before after_is =
@@ -193,7 +193,7 @@ choices_more rows k row choices after within is before after_is =
     after_is ∙ ap (λ n. min (n * length row.items) greatest) before ∙ capped (product so_far) (length row.items)
     ∙ ap (min greatest) (sym (ap product next ∙ product_more so_far (length row.items)))
 
-zip_more : {X Y : Type 0} (R : X → Y → Type 0) (xs : List X) (ys : List Y) (x : X) (y : Y) → AllZip R xs ys → R x y → AllZip R (xs ++ x ∷ []) (ys ++ y ∷ [])
+pub zip_more : {X Y : Type 0} (R : X → Y → Type 0) (xs : List X) (ys : List Y) (x : X) (y : Y) → AllZip R xs ys → R x y → AllZip R (xs ++ x ∷ []) (ys ++ y ∷ [])
 zip_more R [] [] x y all here = (here, tt)
 zip_more R (z ∷ xs) (w ∷ ys) x y all here = (all.0, zip_more R xs ys x y all.1 here)
 zip_more R [] (_ ∷ _) x y all here = absurd all

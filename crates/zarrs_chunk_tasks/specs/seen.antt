@@ -1,8 +1,12 @@
+pub mod Between
 pub mod Choices
 pub mod Counts
 pub mod GroupNumbers
 pub mod Grouped
 pub mod LargestChunk
+pub mod Least
 pub mod Sizes
+pub mod Stages
 pub mod Tasks
 pub mod Tried
+pub mod TriedEdges

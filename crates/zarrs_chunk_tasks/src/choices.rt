@@ -77,7 +77,7 @@ fn of_no_rows(
 }
 
 /// Whether a cost is less than a bound, if there is one.
-fn is_below(bound: Option<u128>, cost: u128) -> bool
+pub(crate) fn is_below(bound: Option<u128>, cost: u128) -> bool
     ensures { IsTrue result ↔ IsBelow bound cost }
 {
     match bound {

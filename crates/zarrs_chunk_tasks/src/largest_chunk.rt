@@ -49,7 +49,7 @@ pub(crate) fn largest_chunk<G: ChunkGridTraits>(
 ///
 /// # Errors
 /// Out of memory.
-fn longest_along<G: ChunkGridTraits>(
+pub(crate) fn longest_along<G: ChunkGridTraits>(
     alloc: Global,
     grid: &G,
     dimension: usize,
@@ -80,7 +80,7 @@ fn longest_along<G: ChunkGridTraits>(
 ///
 /// # Errors
 /// Out of memory.
-fn edge_along<G: ChunkGridTraits>(
+pub(crate) fn edge_along<G: ChunkGridTraits>(
     alloc: Global,
     grid: &G,
     dimension: usize,

@@ -17,6 +17,10 @@
 //! | `walk` | the walk over them, one after another |
 //! | `counts` | how much they read and write, without a walk |
 //! | `cheapest` | the tasks that cost the least, under a bound of memory |
+//! | `stages` | one stage or two, whichever costs the least |
+//! | `between` | two stages: the intermediate array between them |
+//! | `edges` | the edges that are tried for its chunks |
+//! | `least` | what tasks cost at least, under a bound of memory |
 //! | `tried` | the numbers of chunks that are tried for them |
 //! | `sizes` | what groups of a number of chunks cost, along one dimension |
 //! | `choices` | the choice of one number for each dimension |
@@ -28,17 +32,21 @@
 //! | `laws` | what holds of the tasks of every copy |
 #![tactic(auto)]
 
+mod between;
 mod buffer;
 mod cheapest;
 mod choices;
 mod copied;
 mod counts;
+mod edges;
 mod group_numbers;
 mod groups_along;
 mod largest_chunk;
 pub mod laws;
+mod least;
 mod plan;
 mod sizes;
+mod stages;
 mod task;
 mod tasks_error;
 mod tried;
@@ -47,6 +55,7 @@ mod walk;
 pub use cheapest::{CheapestTasks, cheapest_tasks};
 pub use counts::{CountsAlong, task_counts, task_counts_by_source};
 pub use plan::{tasks, tasks_by_source};
+pub use stages::{CheapestStages, cheapest_stages};
 pub use task::Task;
 pub use tasks_error::TasksError;
 pub use walk::Tasks;

@@ -118,7 +118,7 @@ fn all_sizes<G: ChunkGridTraits, H: ChunkGridTraits>(
 }
 
 /// How many choices there are of one size from each row, up to the greatest number.
-fn choices_of(rows: &[Vec<Size>]) -> u64
+pub(crate) fn choices_of<T>(rows: &[Vec<T>]) -> u64
     ensures { result ≡ min greatest (product (map length (rows_of rows.now))) }
 {
     let mut choices = 1u64;

@@ -10,8 +10,8 @@ use Rattle.zarrs_chunk_tasks.specs.Counts.{greatest_of_128}
 use Rattle.zarrs_chunk_tasks.specs.seen.Sizes.{each_of}
 
 -- rows, without where they lie in memory
-abbrev pub rows_of : List (Vec Size Global) → List (List Size)
-rows_of = map (λ (row : Vec Size Global). row.items)
+abbrev pub rows_of : {T : Type 0} → List (Vec T Global) → List (List T)
+rows_of {T} = map (λ (row : Vec T Global). row.items)
 
 -- how many elements the largest buffer has
 abbrev pub held : List Size → ℕ

@@ -6,4 +6,4 @@ use Rattle.zarrs_chunk_tasks.proofs.tried.choices_of.Given as goal
 
 -- the choices from the rows so far are counted
 abbrev pub invariant-loop-row : goal.invariant-loop-row
-invariant-loop-row l = l.choices ≡ min greatest (product (map length (rows_of (take l.row-index l.rows))))
+invariant-loop-row g l = l.choices ≡ min greatest (product (map length (rows_of (take l.row-index l.rows))))

@@ -1,0 +1,61 @@
+use Rattle.std.proofs.Common.{◌∙◌, arith}
+use Rattle.zarrs_chunk_tasks.proofs.TriedEdges.{all_tried, as_many, few_along, few_rows, some_rows}
+use Rattle.zarrs_chunk_tasks.proofs.edges.tried_edges.Goals as goal
+
+pub thinned-requires : goal.thinned-requires
+thinned-requires g c =
+    let is = rw c.deref.ensures.value at (c.in_ok-rows.ensures {u = tt}) in some_rows _ _ is
+
+pub returns-then-shapes_of-gt-MOST_SHAPES-clause-long :
+    goal.returns-then-shapes_of-gt-MOST_SHAPES-clause-long
+returns-then-shapes_of-gt-MOST_SHAPES-clause-long g c =
+    let source = g.G.ChunkGridTraits.dimensions c.args.source.now in
+    let target = g.H.ChunkGridTraits.dimensions c.args.target.now in
+    let is = rw c.deref.ensures.value at (c.in_ok-rows.ensures {u = tt}) in
+    (c.in_ok-thinned.ensures {u = tt}).long
+    ∙ as_many source target c.args.region.now c.args.moved.now.start c.requires.some c.in_ok-units.units.items (c.in_ok-units.ensures {u = tt})
+    c.in_ok-rows.rows.items is
+
+pub returns-then-shapes_of-gt-MOST_SHAPES-clause-are_all :
+    goal.returns-then-shapes_of-gt-MOST_SHAPES-clause-are_all
+returns-then-shapes_of-gt-MOST_SHAPES-clause-are_all g c = λ few.
+    let source = g.G.ChunkGridTraits.dimensions c.args.source.now in
+    let target = g.H.ChunkGridTraits.dimensions c.args.target.now in
+    let is = rw c.deref.ensures.value at (c.in_ok-rows.ensures {u = tt}) in
+    let shapes = rw c.deref-2.ensures.value at c.shapes_of.ensures in
+    let up_to =
+    few_rows source target c.args.region.now c.args.moved.now.start c.requires.some c.in_ok-units.units.items (c.in_ok-units.ensures {u = tt})
+    c.in_ok-rows.rows.items is few
+    in
+    absurd (omega (arith, shapes, up_to, c.if-shapes_of-gt-MOST_SHAPES.true))
+
+pub returns-clause-long : goal.returns-clause-long
+returns-clause-long g c =
+    let source = g.G.ChunkGridTraits.dimensions c.args.source.now in
+    let target = g.H.ChunkGridTraits.dimensions c.args.target.now in
+    let is = rw c.deref.ensures.value at (c.in_ok-rows.ensures {u = tt}) in
+    as_many source target c.args.region.now c.args.moved.now.start c.requires.some c.in_ok-units.units.items (c.in_ok-units.ensures {u = tt})
+    c.in_ok-rows.rows.items is
+
+pub returns-clause-some : goal.returns-clause-some
+returns-clause-some g c =
+    let is = rw c.deref.ensures.value at (c.in_ok-rows.ensures {u = tt}) in some_rows _ _ is
+
+pub returns-clause-all : goal.returns-clause-all
+returns-clause-all g c = λ are_all.
+    let source = g.G.ChunkGridTraits.dimensions c.args.source.now in
+    let target = g.H.ChunkGridTraits.dimensions c.args.target.now in
+    let is = rw c.deref.ensures.value at (c.in_ok-rows.ensures {u = tt}) in
+    let few = rw c.deref-3.ensures.value at (c.are_few-are_all.ensures.0 are_all) in
+    all_tried source target c.args.region.now c.args.moved.now.start c.requires.some c.in_ok-units.units.items (c.in_ok-units.ensures {u = tt})
+    c.in_ok-rows.rows.items is few
+
+pub returns-clause-are_all : goal.returns-clause-are_all
+returns-clause-are_all g c = λ few.
+    let source = g.G.ChunkGridTraits.dimensions c.args.source.now in
+    let target = g.H.ChunkGridTraits.dimensions c.args.target.now in
+    let is = rw c.deref.ensures.value at (c.in_ok-rows.ensures {u = tt}) in
+    c.are_few-are_all.ensures.1
+    (rw c.deref-3.ensures.value
+    (few_along source target c.args.region.now c.args.moved.now.start c.requires.some c.in_ok-units.units.items (c.in_ok-units.ensures {u = tt})
+    c.in_ok-rows.rows.items is few))

@@ -1,0 +1,96 @@
+-- A copy in stages: by way of intermediate arrays, each of which is cut into chunks of one shape.
+-- Source: Zarr V3 core, regular grid; stages are this library's own, after the field's practice.
+use Rattle.std.specs.Prelude.{◌≡◌, ℕ, ◌+◌, ◌≤◌, IsTrue, List, [], ◌∷◌, MatchOption, Option, Some, Vec, length, map, min}
+use Rattle.std.specs.Int.NonZero.{non_zero_u64_get}
+use Rattle.std.specs.List.{sum}
+use Rattle.std.specs.declared.alloc.Global.{Global}
+use Rattle.std.specs.declared.num.NonZeroU64.{NonZeroU64}
+use Rattle.zarrs_chunk_base.specs.ArraySubset.{Box}
+use Rattle.zarrs_chunk_base.specs.Dimension.{Dimension}
+use Rattle.zarrs_chunk_axes.specs.EqualEdges.{AreEqualEdges}
+use Rattle.zarrs_chunk_plan.specs.Rechunking.{array_box}
+use Rattle.zarrs_chunk_tasks.specs.Cheapest.{AreTasksOf, FindsTasks, HoldAtMost, IsCost, IsLargestOfBoth, IsOfNoTasks}
+use Rattle.zarrs_chunk_tasks.specs.Counts.{greatest_of_128}
+use Rattle.zarrs_chunk_tasks.specs.Edges.{AreFewPieces, IsTriedShape}
+use Rattle.zarrs_chunk_tasks.specs.declared.cheapest.CheapestTasks.{CheapestTasks}
+use Rattle.zarrs_chunk_tasks.specs.declared.stages.CheapestStages.{CheapestStages}
+use Rattle.zarrs_chunk_tasks.specs.declared.task.Task.{Task}
+
+-- a region of the source's array is copied to the target's, from `at` on, and a worker holds at most `most` elements
+module _ (source target : List Dimension) (region : Box) (at : List ℕ) (most : ℕ) where
+  -- the tasks by groups of these numbers of chunks, and they fit
+  pub record Fit (each : List NonZeroU64) (tasks : List Task) : Type 0 where
+    pub long : length each ≡ length source
+    pub are_tasks : AreTasksOf source target region at each tasks
+    pub hold : (largest : ℕ) → IsLargestOfBoth source target region at largest → HoldAtMost largest most tasks
+
+  -- all tasks that fit cost this or more
+  abbrev pub CostAtLeast : (read_elements cost : ℕ) → Type 0
+  CostAtLeast read_elements cost =
+      (each : List NonZeroU64) (tasks : List Task) → Fit each tasks → (its_cost : ℕ) × IsCost source read_elements tasks its_cost × (cost ≤ its_cost)
+
+  -- no tasks fit
+  abbrev pub NoneFit : Type 0
+  NoneFit = (each : List NonZeroU64) (tasks : List Task) → ¬ Fit each tasks
+
+-- The region is copied in two stages, by an intermediate array: from the source's array, and then to the target's.
+module _ (source target : List Dimension) (region : Box) (at : List ℕ) (most : ℕ) (between : List Dimension) where
+  -- the tasks of either stage, and they fit
+  abbrev pub BothFit : (one other : List NonZeroU64) (first second : List Task) → Type 0
+  BothFit one other first second =
+      Fit source between region (array_box between).start most one first × Fit between target (array_box between) at most other second
+
+  -- all tasks that fit cost this or more, both stages together
+  abbrev pub BothCostAtLeast : (read_elements cost : ℕ) → Type 0
+  BothCostAtLeast read_elements cost =
+      (one other : List NonZeroU64) (first second : List Task) → BothFit one other first second
+      → (a b : ℕ) × IsCost source read_elements first a × IsCost between read_elements second b × (cost ≤ a + b)
+
+  -- no tasks of both stages fit
+  abbrev pub NoneOfBothFit : Type 0
+  NoneOfBothFit = (one other : List NonZeroU64) (first second : List Task) → ¬ BothFit one other first second
+
+-- a worker holds at most `most` elements, and a read is worth so many; the elements go to the target's array, from `at` on
+module _ (target : List Dimension) (at : List ℕ) (most read_elements : ℕ) where
+  -- The tasks of stages that copy a region to the target's array, by way of intermediate arrays that are cut into chunks of these shapes, one after another: the
+  -- tasks of each stage are chosen as those of one stage are.
+  abbrev pub AreStages : (source : List Dimension) → (region : Box) → (chunks : List (List NonZeroU64)) → (stages : List CheapestTasks) → Type 0
+  AreStages source region [] (last ∷ []) = FindsTasks source target region at most read_elements (Some last)
+  AreStages source region (shape ∷ shapes) (stage ∷ stages) =
+      (between : List Dimension) × AreEqualEdges between region.shape (map non_zero_u64_get shape)
+      × FindsTasks source between region (array_box between).start most read_elements (Some stage) × AreStages between (array_box between) shapes stages
+  AreStages _ _ _ _ = ⊥
+
+-- what holds of some intermediate array in chunks of each shape that is tried, if a region of the source's array is copied to the target's, from `at` on
+abbrev pub OfEachTried : (source target : List Dimension) → (region : Box) → (at : List ℕ) → (List Dimension → Type 0) → Type 0
+OfEachTried source target region at P =
+    (shape : List ℕ) → IsTriedShape source target region at shape → (between : List Dimension) × AreEqualEdges between region.shape shape × P between
+
+-- a region of the source's array is copied to the target's, from `at` on, and a worker holds at most `most` elements
+module _ (source target : List Dimension) (region : Box) (at : List ℕ) (most : ℕ) where
+  -- no tasks of one stage cost less, and none of two stages by a shape that is tried
+  pub record NoStagesCostLess (read_elements cost : ℕ) : Type 0 where
+    pub one : CostAtLeast source target region at most read_elements cost
+    pub two : OfEachTried source target region at (λ between. BothCostAtLeast source target region at most between read_elements cost)
+
+  -- no tasks of one stage fit, and none of two stages by a shape that is tried, if the pieces are few
+  pub record NoStagesFit : Type 0 where
+    pub one : NoneFit source target region at most
+    pub two : AreFewPieces source target region at → OfEachTried source target region at (NoneOfBothFit source target region at most)
+
+  -- The stages cost what they say, all together and up to the greatest number. If they are exact, no tasks cost less.
+  pub record AreCheapest (read_elements : ℕ) (found : CheapestStages) : Type 0 where
+    pub are : AreStages target at most read_elements source region (map (λ (shape : Vec NonZeroU64 Global). shape.items) found.chunks.items) found.tasks.items
+    pub cost_is : found.cost ≡ min greatest_of_128 (sum (map (λ (stage : CheapestTasks). stage.cost) found.tasks.items))
+    pub cheapest : IsTrue found.is_exact → NoStagesCostLess read_elements found.cost
+
+  -- what is found of a region that isn't empty: the cheapest stages, or none, if none fit
+  abbrev pub FindsStages : (read_elements : ℕ) → Option CheapestStages → Type 0
+  FindsStages read_elements found = MatchOption found NoStagesFit (AreCheapest read_elements)
+
+-- the one stage of an empty region costs nothing
+pub record IsOfNoStages (source : List Dimension) (found : CheapestStages) : Type 0 where
+  pub no_chunks : found.chunks.items ≡ []
+  pub one : (tasks : CheapestTasks) × (found.tasks.items ≡ tasks ∷ []) × IsOfNoTasks source tasks
+  pub cost : found.cost ≡ 0
+  pub is_exact : IsTrue found.is_exact

@@ -1,0 +1,338 @@
+//! The edges that are tried for the chunks of an intermediate array.
+ghost use Rattle.std.specs.Prelude.{◌≡◌, ◌-◌, ◌*◌, ◌≤◌, ◌<◌, ◌↔◌, ℕ, IfOk, IsTrue, List, [], get_or, length, map, min};
+ghost use Rattle.std.specs.Int.NonZero.{non_zero_u64_get};
+ghost use Rattle.std.specs.List.{AllByRecursion, AllZip, Contains};
+ghost use Rattle.zarrs_chunk_base.specs.ArraySubset.{IsEmptyBox};
+ghost use Rattle.zarrs_chunk_base.specs.Dimension.{array_sizes};
+ghost use Rattle.zarrs_chunk_base.specs.Greatest.{greatest};
+ghost use Rattle.zarrs_chunk_plan.specs.Counts.{product};
+ghost use Rattle.zarrs_chunk_plan.specs.Region.{LiesIn};
+ghost use Rattle.zarrs_chunk_tasks.specs.Edges.{AreFewPieces, AreLongest, IsTriedShape, most_pieces, most_shapes, rounded_up};
+ghost use Rattle.zarrs_chunk_tasks.specs.seen.TriedEdges.{AreUnits, HasAllBy, HasPut, IsFew, IsRow, IsSome, edges_in, rows_of_edges};
+
+use crate::largest_chunk::longest_along;
+use std::alloc::{AllocError, Global};
+use std::num::NonZeroU64;
+use zarrs_chunk_base::ArraySubset;
+use zarrs_chunk_parts::expect_answer;
+use zarrs_chunks::ChunkGridTraits;
+
+/// Up to how many pieces along a dimension each edge is tried.
+const MOST_PIECES: u64 = 1 << 16;
+
+/// How many shapes are tried, at most.
+const MOST_SHAPES: u64 = 1 << 17;
+
+/// The edges that are tried.
+#[derive(Drop)]
+pub(crate) struct TriedEdges {
+    /// Those along each dimension, without repeats.
+    pub(crate) rows: Vec<Vec<NonZeroU64>>,
+    /// Whether none was left out.
+    pub(crate) are_all: bool,
+}
+
+/// The size of one dimension, and the units that edges along it are made of, in elements.
+#[derive(Clone, Copy)]
+struct Units {
+    size: u64,
+    /// The edge of the longest chunk of the source, cut to the size,
+    read: u64,
+    /// and that of the longest one of the target.
+    written: u64,
+}
+
+/// Returns the edges that are tried for the chunks of an array between two others. `region` is a box of the source's array, which isn't empty, and `moved` is the
+/// box of the same shape in the target's that it is copied to. The array between them has this shape, too.
+///
+/// An edge has whole chunks of the source, the longest one of those that hold some of the region, or whole chunks of the target, and is cut to the size of the
+/// region. It has as many of them as it takes to cut the region into one piece, into two, three and so on. Where there are more than 2^16 chunks along a
+/// dimension, the number of pieces at least doubles from one edge to the next. While there are more than 2^17 shapes, every second edge is left out along the
+/// dimension that has the most.
+///
+/// # Errors
+/// Out of memory.
+pub(crate) fn tried_edges<G: ChunkGridTraits, H: ChunkGridTraits>(
+    alloc: Global,
+    source: &G,
+    target: &H,
+    region: &ArraySubset,
+    moved: &ArraySubset,
+) -> Result<TriedEdges, AllocError>
+    requires region { LiesIn region.now (array_sizes (G.dimensions source.now)) }
+    requires moved { LiesIn moved.now (array_sizes (H.dimensions target.now)) }
+    requires same { moved.now.shape ≡ region.now.shape }
+    requires some { ¬ IsEmptyBox region.now }
+    ensures long { IfOk result (λ tried. length tried.rows.items ≡ length region.now.shape) }
+    ensures some { IfOk result (λ tried. AllByRecursion (λ row. 0 < length row)
+        (rows_of_edges tried.rows.items)) }
+    ensures few { IfOk result (λ tried. product (map length (rows_of_edges tried.rows.items))
+        ≤ most_shapes) }
+    ensures all { IfOk result (λ tried. IsTrue tried.are_all → (shape : List ℕ)
+        → IsTriedShape (G.dimensions source.now) (H.dimensions target.now) region.now
+        moved.now.start shape → AllZip Contains (rows_of_edges tried.rows.items) shape) }
+    ensures are_all { IfOk result (λ tried. AreFewPieces (G.dimensions source.now)
+        (H.dimensions target.now) region.now moved.now.start → IsTrue tried.are_all) }
+{
+    let units = units_along(alloc, source, target, region, moved)?;
+    let rows = all_edges(alloc, &units)?;
+    if shapes_of(&rows) > MOST_SHAPES {
+        return Ok(TriedEdges {
+            rows: thinned(alloc, rows)?,
+            are_all: false,
+        });
+    }
+    let are_all = are_few(&units);
+    Ok(TriedEdges { rows, are_all })
+}
+
+/// Finds what the edges along each dimension are made of.
+///
+/// # Errors
+/// Out of memory.
+fn units_along<G: ChunkGridTraits, H: ChunkGridTraits>(
+    alloc: Global,
+    source: &G,
+    target: &H,
+    region: &ArraySubset,
+    moved: &ArraySubset,
+) -> Result<Vec<Units>, AllocError>
+    requires region { LiesIn region.now (array_sizes (G.dimensions source.now)) }
+    requires moved { LiesIn moved.now (array_sizes (H.dimensions target.now)) }
+    requires same { moved.now.shape ≡ region.now.shape }
+    requires some { ¬ IsEmptyBox region.now }
+    ensures { IfOk result (λ units. AreUnits (G.dimensions source.now) (H.dimensions target.now)
+        region.now moved.now.start units.items) }
+{
+    moved.is_a_box();
+    let read = longest_edges(alloc, source, region)?;
+    let written = longest_edges(alloc, target, moved)?;
+    let sizes = region.shape();
+    let mut units = Vec::new(alloc);
+    for dimension in 0..sizes.len() {
+        let size = sizes[dimension];
+        units.push(Units {
+            size,
+            read: read[dimension].min(size),
+            written: written[dimension].min(size),
+        })?;
+    }
+    Ok(units)
+}
+
+/// How long the longest chunk is along each dimension, of those that hold some of a box of elements. The box isn't empty and lies in the array.
+///
+/// # Errors
+/// Out of memory.
+fn longest_edges<G: ChunkGridTraits>(
+    alloc: Global,
+    grid: &G,
+    elements: &ArraySubset,
+) -> Result<Vec<u64>, AllocError>
+    requires lies { LiesIn elements.now (array_sizes (G.dimensions grid.now)) }
+    requires some { ¬ IsEmptyBox elements.now }
+    ensures longest { IfOk result (λ edges. AreLongest (G.dimensions grid.now) elements.now
+        edges.items) }
+    ensures long { IfOk result (λ edges. length edges.items ≡ length elements.now.shape) }
+    ensures some { IfOk result (λ edges. AllByRecursion (λ edge. 0 < edge) edges.items) }
+{
+    elements.is_a_box();
+    let cover = expect_answer(grid.chunks_in_array_subset(alloc, elements))?;
+    let first = cover.start();
+    let many = cover.shape();
+    let mut edges = Vec::new(alloc);
+    for dimension in 0..first.len() {
+        edges.push(longest_along(alloc, grid, dimension, first[dimension], many[dimension])?)?;
+    }
+    Ok(edges)
+}
+
+/// Whether each edge is tried along each dimension.
+fn are_few(units: &[Units]) -> bool
+    requires { AllByRecursion IsSome units.now }
+    ensures { IsTrue result ↔ AllByRecursion IsFew units.now }
+{
+    for along in units {
+        if !is_few(along) {
+            return false;
+        }
+    }
+    true
+}
+
+/// Whether each edge is tried along one dimension.
+fn is_few(along: &Units) -> bool
+    requires { IsSome along.now }
+    ensures { IsTrue result ↔ IsFew along.now }
+{
+    let read = along.size.div_ceil(along.read);
+    let written = along.size.div_ceil(along.written);
+    read.max(written) <= MOST_PIECES
+}
+
+/// Finds the edges that are tried along each dimension.
+///
+/// # Errors
+/// Out of memory.
+fn all_edges(alloc: Global, units: &[Units]) -> Result<Vec<Vec<NonZeroU64>>, AllocError>
+    requires { AllByRecursion IsSome units.now }
+    ensures { IfOk result (λ rows. AllZip IsRow units.now (rows_of_edges rows.items)) }
+{
+    let mut rows = Vec::new(alloc);
+    for along in units {
+        rows.push(edges_along(alloc, along)?)?;
+    }
+    Ok(rows)
+}
+
+/// Finds the edges that are tried along one dimension.
+///
+/// # Errors
+/// Out of memory.
+fn edges_along(alloc: Global, along: &Units) -> Result<Vec<NonZeroU64>, AllocError>
+    requires { IsSome along.now }
+    ensures { IfOk result (λ edges. IsRow along.now (edges_in edges.items)) }
+{
+    let mut edges = Vec::new(alloc);
+    put_all(&mut edges, along.size, along.read)?;
+    put_all(&mut edges, along.size, along.written)?;
+    Ok(edges)
+}
+
+/// Adds the edges of whole units to those along a dimension of `size` elements, each one once.
+///
+/// # Errors
+/// Out of memory.
+fn put_all(edges: &mut Vec<NonZeroU64>, size: u64, unit: u64) -> Result<(), AllocError>
+    requires size { 0 < size }
+    requires unit { 0 < unit }
+    ensures { IfOk result (λ _. HasAllBy size unit (edges_in edges.old.items)
+        (edges_in edges.new.items)) }
+{
+    let units = size.div_ceil(unit);
+    let mut pieces = 1u64;
+    let mut multiple = units;
+    put(edges, edge_of(size, unit, multiple))?;
+    while multiple > 1 {
+        pieces = next_pieces(units, multiple, pieces);
+        multiple = units.div_ceil(pieces);
+        put(edges, edge_of(size, unit, multiple))?;
+    }
+    Ok(())
+}
+
+/// The next number of pieces that is tried, where so many make pieces of `multiple` units. It is the least one that makes shorter pieces, or at least twice as
+/// many as before if the units are more than 2^16.
+fn next_pieces(units: u64, multiple: u64, pieces: u64) -> u64
+    requires { 1 < multiple }
+    ensures shorter { units ≤ (multiple - 1) * result }
+    ensures least { units ≤ most_pieces → result ≡ rounded_up units (multiple - 1) }
+{
+    let next = units.div_ceil(multiple - 1);
+    if units > MOST_PIECES {
+        next.max(pieces.saturating_mul(2))
+    } else {
+        next
+    }
+}
+
+/// The edge of so many units, cut to the size.
+fn edge_of(size: u64, unit: u64, multiple: u64) -> NonZeroU64
+    requires size { 0 < size }
+    requires unit { 0 < unit }
+    requires multiple { 0 < multiple }
+    ensures { non_zero_u64_get result ≡ min size (unit * multiple) }
+{
+    let edge = unit.saturating_mul(multiple).min(size);
+    NonZeroU64::MIN.saturating_add(edge.saturating_sub(1))
+}
+
+/// Adds an edge, unless it is there.
+///
+/// # Errors
+/// Out of memory.
+fn put(edges: &mut Vec<NonZeroU64>, edge: NonZeroU64) -> Result<(), AllocError>
+    ensures { IfOk result (λ _. HasPut (edges_in edges.old.items) (non_zero_u64_get edge)
+        (edges_in edges.new.items)) }
+{
+    if !has_edge(edges, edge) {
+        edges.push(edge)?;
+    }
+    Ok(())
+}
+
+/// Whether an edge is one of some.
+fn has_edge(edges: &[NonZeroU64], edge: NonZeroU64) -> bool
+    ensures { IsTrue result → Contains (edges_in edges.now) (non_zero_u64_get edge) }
+{
+    for other in edges {
+        if other.get() == edge.get() {
+            return true;
+        }
+    }
+    false
+}
+
+/// How many shapes there are of one edge from each row, up to the greatest number.
+fn shapes_of(rows: &[Vec<NonZeroU64>]) -> u64
+    ensures { result ≡ min greatest (product (map length (rows_of_edges rows.now))) }
+{
+    let mut shapes = 1u64;
+    for row in rows {
+        shapes = shapes.saturating_mul(row.as_slice().len() as u64);
+    }
+    shapes
+}
+
+/// Returns fewer edges, so that the shapes aren't too many.
+///
+/// # Errors
+/// Out of memory.
+fn thinned(
+    alloc: Global,
+    mut rows: Vec<Vec<NonZeroU64>>,
+) -> Result<Vec<Vec<NonZeroU64>>, AllocError>
+    requires { AllByRecursion (λ row. 0 < length row) (rows_of_edges rows.items) }
+    ensures long { IfOk result (λ fewer. length fewer.items ≡ length rows.items) }
+    ensures some { IfOk result (λ fewer. AllByRecursion (λ row. 0 < length row)
+        (rows_of_edges fewer.items)) }
+    ensures few { IfOk result (λ fewer. product (map length (rows_of_edges fewer.items))
+        ≤ most_shapes) }
+{
+    while shapes_of(&rows) > MOST_SHAPES {
+        let longest = longest_row(&rows);
+        rows[longest] = every_second(alloc, &rows[longest])?;
+    }
+    Ok(rows)
+}
+
+/// Which of some rows is the longest, or the first one of those.
+fn longest_row(rows: &[Vec<NonZeroU64>]) -> usize
+    requires { 0 < length rows.now }
+    ensures is_one { result < length rows.now }
+    ensures longest { (k : ℕ) → k < length rows.now → length (get_or (rows_of_edges rows.now) k [])
+        ≤ length (get_or (rows_of_edges rows.now) result []) }
+{
+    let mut longest = 0;
+    for place in 1..rows.len() {
+        if rows[place].as_slice().len() > rows[longest].as_slice().len() {
+            longest = place;
+        }
+    }
+    longest
+}
+
+/// Returns the first edge of a row, and every second one after it.
+///
+/// # Errors
+/// Out of memory.
+fn every_second(alloc: Global, row: &[NonZeroU64]) -> Result<Vec<NonZeroU64>, AllocError>
+    ensures some { 0 < length row.now → IfOk result (λ part. 0 < length part.items) }
+    ensures fewer { 1 < length row.now → IfOk result (λ part. length part.items < length row.now) }
+{
+    let mut part = Vec::new(alloc);
+    for half in 0..row.len().div_ceil(2) {
+        part.push(row[2 * half])?;
+    }
+    Ok(part)
+}
