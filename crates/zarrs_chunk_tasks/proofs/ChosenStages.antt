@@ -1,17 +1,14 @@
 -- The cheaper ones of one stage and two are the cheapest stages.
-use Rattle.std.proofs.Common.{◌≡◌, ◌∙◌, ℕ, zero, suc, ◌+◌, ◌<◌, ◌≤◌, ◌&&◌, IsTrue, List, [], ◌∷◌, Vec, Global, Bool, true, IfSome, MatchOption, Option, None, Some, length, map, min, slice_index_or, refl, ap, ap₂, subst, sym, arith, ⊎_elim, Contains}
+use Rattle.std.proofs.Common.{◌≡◌, ◌∙◌, ℕ, zero, suc, ◌<◌, ◌≤◌, ◌&&◌, IsTrue, List, [], ◌∷◌, Vec, Global, Bool, true, IfSome, MatchOption, Option, None, Some, length, map, refl, ap, subst, arith, ⊎_elim, Contains}
 use Rattle.std.proofs.lemmas.List.{length-map}
 use Rattle.std.specs.Int.NonZero.{non_zero_u64_get}
-use Rattle.std.specs.List.{AllByRecursion, AllZip, sum}
+use Rattle.std.specs.List.{AllByRecursion, AllZip}
 use Rattle.std.specs.declared.num.NonZeroU64.{NonZeroU64}
 use Rattle.zarrs_chunk_axes.specs.EqualEdges.{AreEqualEdges}
 use Rattle.zarrs_chunk_base.specs.ArraySubset.{Box}
 use Rattle.zarrs_chunk_base.specs.Dimension.{Dimension}
-use Rattle.zarrs_chunk_base.specs.Greatest.{greatest}
-use Rattle.zarrs_chunk_plan.specs.Counts.{product}
 use Rattle.zarrs_chunk_tasks.specs.Cheapest.{FindsTasks, IsOfNoTasks}
-use Rattle.zarrs_chunk_tasks.specs.Counts.{greatest_of_128}
-use Rattle.zarrs_chunk_tasks.specs.Edges.{AreFewPieces, IsTriedShape, most_shapes}
+use Rattle.zarrs_chunk_tasks.specs.Edges.{AreFewPieces, IsTriedShape}
 use Rattle.zarrs_chunk_tasks.specs.Stages.{AreCheapest, BothCostAtLeast, CostAtLeast, FindsStages, IsOfNoStages, NoStagesCostLess, NoneOfBothFit, OfEachTried}
 use Rattle.zarrs_chunk_tasks.specs.declared.between.Compared.{Compared}
 use Rattle.zarrs_chunk_tasks.specs.declared.between.TwoStages.{TwoStages}
@@ -137,17 +134,9 @@ module _ (source target : List Dimension) (region : Box) (at : List ℕ) (most w
 
 -- ---- rows of edges
 
--- edges and their numbers are equally many
-pub as_many_numbers : (rows : List (Vec NonZeroU64 Global)) → map length (rows_of_edges rows) ≡ map length (rows_of rows)
-as_many_numbers [] = refl
-as_many_numbers (row ∷ rows) = ap₂ (λ n ns. n ∷ ns) (length-map row.items non_zero_u64_get) (as_many_numbers rows)
-
 pub some_edges : (rows : List (Vec NonZeroU64 Global)) → AllByRecursion (λ (row : List ℕ). 0 < length row) (rows_of_edges rows) → SomeInEach (rows_of rows)
 some_edges [] some = tt
 some_edges (row ∷ rows) some = (omega (arith, some.0, length-map row.items non_zero_u64_get), some_edges rows some.1)
-
-pub few_edges : (rows : List (Vec NonZeroU64 Global)) → product (map length (rows_of_edges rows)) ≤ most_shapes → product (map length (rows_of rows)) ≤ greatest
-few_edges rows few = subst (λ many. product many ≤ greatest) (as_many_numbers rows) (omega (arith, few))
 
 -- ---- no elements
 

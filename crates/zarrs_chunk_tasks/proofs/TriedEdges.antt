@@ -23,10 +23,10 @@ use Rattle.zarrs_chunk_plan.proofs.SameBoxes.{same_box_of}
 use Rattle.zarrs_chunk_tasks.specs.Edges.{AreFewPieces, AreLongest, AreTriedEdges, IsTriedEdge, IsTriedShape, both, longest_of_each, most_pieces, most_shapes, pieces_by, rounded_up}
 use Rattle.zarrs_chunk_tasks.specs.declared.edges.Units.{Units}
 use Rattle.zarrs_chunk_tasks.specs.seen.LargestChunk.{IsLongestOf}
+use Rattle.zarrs_chunk_tasks.specs.seen.Choices.{rows_of}
 use Rattle.zarrs_chunk_tasks.specs.seen.TriedEdges.{AreUnits, HasAllBy, HasPut, IsFew, IsRow, IsSome, edges_in, rows_of_edges, units_of}
 use Rattle.zarrs_chunk_tasks.proofs.GroupCounts.{first_within}
 use Rattle.zarrs_chunk_tasks.proofs.Grouped.{next_group}
-use Rattle.zarrs_chunk_tasks.proofs.LargestChunk.{capped, product_more}
 use Rattle.zarrs_chunk_tasks.proofs.LeastCost.{times}
 use Rattle.zarrs_chunk_tasks.proofs.SumsAlong.{greatest_more}
 use Rattle.zarrs_chunk_tasks.proofs.TriedSizes.{zip_more}
@@ -183,21 +183,14 @@ row_is units first after read written = record {
 
 -- ---- rows
 
-pub more_rows : (rows : List (Vec NonZeroU64 Global)) (k : ℕ) (row : Vec NonZeroU64 Global) → k < length rows → row ≡ get_or rows k row
-    → rows_of_edges (take (k + 1) rows) ≡ rows_of_edges (take k rows) ++ edges_in row.items ∷ []
-more_rows rows k row within is =
-    ap rows_of_edges (take_more rows k row within ∙ ap (λ r. take k rows ++ r ∷ []) (sym is))
-    ∙ map-append (λ (r : Vec NonZeroU64 Global). edges_in r.items) (take k rows) (row ∷ [])
+-- edges and their numbers are equally many
+pub as_many_numbers : (rows : List (Vec NonZeroU64 Global)) → map length (rows_of_edges rows) ≡ map length (rows_of rows)
+as_many_numbers [] = refl
+as_many_numbers (row ∷ rows) = ap₂ (λ n ns. n ∷ ns) (length-map row.items non_zero_u64_get) (as_many_numbers rows)
 
-pub shapes_more : (rows : List (Vec NonZeroU64 Global)) (k : ℕ) (row : Vec NonZeroU64 Global) (shapes after : ℕ) → k < length rows → row ≡ get_or rows k row
-    → shapes ≡ min greatest (product (map length (rows_of_edges (take k rows)))) → after ≡ min (shapes * length row.items) greatest
-    → after ≡ min greatest (product (map length (rows_of_edges (take (k + 1) rows))))
-shapes_more rows k row shapes after within is before after_is =
-    let so_far = map length (rows_of_edges (take k rows)) in
-    let next = ap (map length) (more_rows rows k row within is) ∙ map-append length (rows_of_edges (take k rows)) (edges_in row.items ∷ []) in
-    let long = length-map row.items non_zero_u64_get in
-    after_is ∙ ap (λ n. min (n * length row.items) greatest) before ∙ capped (product so_far) (length row.items)
-    ∙ ap (min greatest) (sym (ap product next ∙ product_more so_far (length (edges_in row.items)) ∙ ap (λ n. product so_far * n) long))
+pub as_counted : (rows : List (Vec NonZeroU64 Global)) (shapes : ℕ) → shapes ≡ min greatest (product (map length (rows_of rows)))
+    → shapes ≡ min greatest (product (map length (rows_of_edges rows)))
+as_counted rows shapes is = is ∙ ap (λ many. min greatest (product many)) (sym (as_many_numbers rows))
 
 pub rows_more : (units : List Units) (k : ℕ) (along : Units) (rows after : List (Vec NonZeroU64 Global)) (row : Vec NonZeroU64 Global) → k < length units
     → AllZip IsRow (take k units) (rows_of_edges rows) → IsRow (get_or units k along) (edges_in row.items) → after ≡ rows ++ row ∷ []

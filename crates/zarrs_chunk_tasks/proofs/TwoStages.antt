@@ -1,10 +1,10 @@
 -- The cheapest two stages, by one intermediate array.
-use Rattle.std.proofs.Common.{◌≡◌, ◌∙◌, ℕ, zero, suc, ◌+◌, ◌*◌, ◌/◌, ◌%◌, ◌<◌, ◌≤◌, IsTrue, List, [], ◌∷◌, ◌++◌, Vec, Global, Bool, true, false, IfSome, MatchOption, Option, None, Some, drop, length, map, min, slice_index_or, refl, ap, ap₂, subst, sym, arith, ⊎_elim, Contains, ◌&&◌, replicate}
-use Rattle.std.proofs.Math.Nat.{div-eq_of_lt-le, mod-add-div', mod-lt, mul-le-mul_right, mul_comm, mul-suc}
+use Rattle.std.proofs.Common.{◌≡◌, ◌∙◌, ℕ, zero, suc, ◌+◌, ◌*◌, ◌/◌, ◌%◌, ◌<◌, ◌≤◌, IsTrue, List, [], ◌∷◌, ◌++◌, Vec, Global, Bool, true, false, IfSome, MatchOption, Option, None, Some, drop, length, map, slice_index_or, refl, ap, ap₂, subst, sym, arith, ⊎_elim, ◌&&◌, replicate}
+use Rattle.std.proofs.Math.Nat.{div-eq_of_lt-le, mod-add-div', mod-lt, mul-le-mul_right, mul_comm}
 use Rattle.std.proofs.lemmas.List.{append-nil, drop_all, length-map}
 use Rattle.std.proofs.lemmas.Bool.{cases_lt, true≢false}
 use Rattle.std.specs.Int.NonZero.{non_zero_u64_get}
-use Rattle.std.specs.List.{AllByRecursion, AllZip}
+use Rattle.std.specs.List.{AllByRecursion}
 use Rattle.std.specs.declared.num.NonZeroU64.{NonZeroU64}
 use Rattle.zarrs_chunk_base.specs.ArraySubset.{Box}
 use Rattle.zarrs_chunk_base.specs.Dimension.{Dimension, array_sizes}
@@ -13,9 +13,8 @@ use Rattle.zarrs_chunk_plan.specs.Counts.{product}
 use Rattle.zarrs_chunk_plan.specs.Rechunking.{array_box}
 use Rattle.zarrs_chunk_plan.specs.Region.{CanBeMoved, EndWithin}
 use Rattle.zarrs_chunk_plan.proofs.MovedBoxes.{whole_within}
-use Rattle.zarrs_chunk_tasks.specs.Cheapest.{FindsTasks, IsChosen, IsCost}
-use Rattle.zarrs_chunk_tasks.specs.Counts.{greatest_of_128}
-use Rattle.zarrs_chunk_tasks.specs.Stages.{BothCostAtLeast, BothFit, CostAtLeast, Fit, NoneFit, NoneOfBothFit}
+use Rattle.zarrs_chunk_tasks.specs.Cheapest.{FindsTasks, IsChosen}
+use Rattle.zarrs_chunk_tasks.specs.Stages.{BothCostAtLeast, CostAtLeast, NoneFit, NoneOfBothFit}
 use Rattle.zarrs_chunk_tasks.specs.declared.between.Compared.{Compared}
 use Rattle.zarrs_chunk_tasks.specs.declared.between.TwoStages.{TwoStages}
 use Rattle.zarrs_chunk_tasks.specs.declared.cheapest.CheapestTasks.{CheapestTasks}

@@ -8,9 +8,11 @@ ghost use Rattle.zarrs_chunk_base.specs.Greatest.{greatest};
 ghost use Rattle.zarrs_chunk_plan.specs.Counts.{product};
 ghost use Rattle.zarrs_chunk_plan.specs.Region.{LiesIn};
 ghost use Rattle.zarrs_chunk_tasks.specs.Edges.{AreFewPieces, AreLongest, IsTriedShape, most_pieces, most_shapes, rounded_up};
+ghost use Rattle.zarrs_chunk_tasks.specs.seen.Choices.{rows_of};
 ghost use Rattle.zarrs_chunk_tasks.specs.seen.TriedEdges.{AreUnits, HasAllBy, HasPut, IsFew, IsRow, IsSome, edges_in, rows_of_edges};
 
 use crate::largest_chunk::longest_along;
+use crate::tried::choices_of;
 use std::alloc::{AllocError, Global};
 use std::num::NonZeroU64;
 use zarrs_chunk_base::ArraySubset;
@@ -66,8 +68,7 @@ pub(crate) fn tried_edges<G: ChunkGridTraits, H: ChunkGridTraits>(
     ensures long { IfOk result (λ tried. length tried.rows.items ≡ length region.now.shape) }
     ensures some { IfOk result (λ tried. AllByRecursion (λ row. 0 < length row)
         (rows_of_edges tried.rows.items)) }
-    ensures few { IfOk result (λ tried. product (map length (rows_of_edges tried.rows.items))
-        ≤ most_shapes) }
+    ensures few { IfOk result (λ tried. product (map length (rows_of tried.rows.items)) ≤ most_shapes) }
     ensures all { IfOk result (λ tried. IsTrue tried.are_all → (shape : List ℕ)
         → IsTriedShape (G.dimensions source.now) (H.dimensions target.now) region.now
         moved.now.start shape → AllZip Contains (rows_of_edges tried.rows.items) shape) }
@@ -76,7 +77,7 @@ pub(crate) fn tried_edges<G: ChunkGridTraits, H: ChunkGridTraits>(
 {
     let units = units_along(alloc, source, target, region, moved)?;
     let rows = all_edges(alloc, &units)?;
-    if shapes_of(&rows) > MOST_SHAPES {
+    if choices_of(&rows) > MOST_SHAPES {
         return Ok(TriedEdges {
             rows: thinned(alloc, rows)?,
             are_all: false,
@@ -273,17 +274,6 @@ fn has_edge(edges: &[NonZeroU64], edge: NonZeroU64) -> bool
     false
 }
 
-/// How many shapes there are of one edge from each row, up to the greatest number.
-fn shapes_of(rows: &[Vec<NonZeroU64>]) -> u64
-    ensures { result ≡ min greatest (product (map length (rows_of_edges rows.now))) }
-{
-    let mut shapes = 1u64;
-    for row in rows {
-        shapes = shapes.saturating_mul(row.as_slice().len() as u64);
-    }
-    shapes
-}
-
 /// Returns fewer edges, so that the shapes aren't too many.
 ///
 /// # Errors
@@ -296,10 +286,9 @@ fn thinned(
     ensures long { IfOk result (λ fewer. length fewer.items ≡ length rows.items) }
     ensures some { IfOk result (λ fewer. AllByRecursion (λ row. 0 < length row)
         (rows_of_edges fewer.items)) }
-    ensures few { IfOk result (λ fewer. product (map length (rows_of_edges fewer.items))
-        ≤ most_shapes) }
+    ensures few { IfOk result (λ fewer. product (map length (rows_of fewer.items)) ≤ most_shapes) }
 {
-    while shapes_of(&rows) > MOST_SHAPES {
+    while choices_of(&rows) > MOST_SHAPES {
         let longest = longest_row(&rows);
         rows[longest] = every_second(alloc, &rows[longest])?;
     }

@@ -1,5 +1,5 @@
 -- Two stages, by one intermediate array.
-use Rattle.std.specs.Prelude.{◌≡◌, ◌≢◌, ◌⊎◌, ℕ, ◌+◌, ◌<◌, ◌≤◌, ◌/◌, ◌%◌, Bool, IfSome, IsTrue, List, [], ◌∷◌, MatchOption, Option, None, Some, slice_index_or, length, map, min, ◌&&◌}
+use Rattle.std.specs.Prelude.{◌≡◌, ◌⊎◌, ℕ, ◌+◌, ◌<◌, ◌≤◌, ◌/◌, ◌%◌, Bool, IsTrue, List, [], ◌∷◌, MatchOption, Option, None, Some, slice_index_or, length, map, min, ◌&&◌}
 use Rattle.std.specs.Int.NonZero.{non_zero_u64_get}
 use Rattle.std.specs.List.{AllZip, Contains}
 use Rattle.std.specs.declared.num.NonZeroU64.{NonZeroU64}
@@ -11,7 +11,6 @@ use Rattle.zarrs_chunk_plan.specs.Rechunking.{array_box}
 use Rattle.zarrs_chunk_tasks.specs.Cheapest.{FindsTasks}
 use Rattle.zarrs_chunk_tasks.specs.Counts.{greatest_of_128}
 use Rattle.zarrs_chunk_tasks.specs.Stages.{BothCostAtLeast, NoneOfBothFit}
-use Rattle.zarrs_chunk_tasks.specs.seen.Choices.{IsBelow}
 use Rattle.zarrs_chunk_tasks.specs.declared.between.Compared.{Compared}
 use Rattle.zarrs_chunk_tasks.specs.declared.between.Staged.{Staged}
 use Rattle.zarrs_chunk_tasks.specs.declared.between.TwoStages.{TwoStages}

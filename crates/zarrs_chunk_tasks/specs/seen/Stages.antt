@@ -1,7 +1,5 @@
 -- One stage or two, as one.
-use Rattle.std.specs.Prelude.{◌≡◌, ℕ, ◌<◌, ◌≤◌, ◌⊎◌, ◌&&◌, Bool, List, [], ◌∷◌, MatchOption, Option, None, Some, Vec, map}
-use Rattle.std.specs.declared.alloc.Global.{Global}
-use Rattle.std.specs.declared.num.NonZeroU64.{NonZeroU64}
+use Rattle.std.specs.Prelude.{◌≡◌, ◌<◌, ◌≤◌, ◌⊎◌, ◌&&◌, Bool, [], ◌∷◌, MatchOption, Option, None, Some}
 use Rattle.zarrs_chunk_tasks.specs.Counts.{greatest_of_128}
 use Rattle.zarrs_chunk_tasks.specs.declared.between.TwoStages.{TwoStages}
 use Rattle.zarrs_chunk_tasks.specs.declared.cheapest.CheapestTasks.{CheapestTasks}

@@ -1,7 +1,6 @@
-use Rattle.std.proofs.Common.{◌≡◌, ◌∙◌, Bool, List, Option, None, Some, arith, ap, subst, sym, refl}
+use Rattle.std.proofs.Common.{◌∙◌, arith, ap, sym, refl}
 use Rattle.std.proofs.lemmas.Bool.{true≢false}
 use Rattle.zarrs_chunk_base.specs.ArraySubset.{Box}
-use Rattle.zarrs_chunk_base.specs.Dimension.{Dimension}
 use Rattle.zarrs_chunk_tasks.proofs.TwoStages.{bound_reached, can_read, can_write, first_none, none_below, none_fits, second_none}
 use Rattle.zarrs_chunks.specs.seen.Grids.{regular_of}
 use Rattle.zarrs_chunk_tasks.proofs.between.both_stages.Goals as goal

@@ -1,6 +1,4 @@
-use Rattle.std.proofs.Common.{◌∙◌, ℕ, ◌<◌, ◌≤◌, arith, refl, subst, sym, ⊎_elim, IfSome, List}
-use Rattle.std.proofs.lemmas.Bool.{cases_lt}
-use Rattle.std.specs.declared.num.NonZeroU64.{NonZeroU64}
+use Rattle.std.proofs.Common.{◌∙◌, arith}
 use Rattle.zarrs_chunk_tasks.specs.seen.Choices.{rows_of}
 use Rattle.zarrs_chunk_tasks.proofs.TwoStages.{best_chosen, has_number, one_each, shapes_compared}
 use Rattle.zarrs_chunk_tasks.proofs.between.cheapest_between.Goals as goal

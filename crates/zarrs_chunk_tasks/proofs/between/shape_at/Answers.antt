@@ -1,9 +1,5 @@
-use Rattle.std.proofs.Common.{◌<◌, ◌∙◌, ◌++◌, [], ap, arith, drop, length, subst, sym}
+use Rattle.std.proofs.Common.{◌<◌, arith, length}
 use Rattle.std.proofs.Math.Nat.{mod-lt}
-use Rattle.std.proofs.lemmas.List.{append-nil, drop_all, length-map}
-use Rattle.std.specs.declared.num.NonZeroU64.{NonZeroU64}
-use Rattle.zarrs_chunk_tasks.specs.seen.Between.{IsShapeAt}
-use Rattle.zarrs_chunk_tasks.specs.seen.Choices.{rows_of}
 use Rattle.zarrs_chunk_tasks.proofs.TwoStages.{no_more_edges, one_edge_more, some_in_row}
 use Rattle.zarrs_chunk_tasks.proofs.between.shape_at.Goals as goal
 

@@ -1,4 +1,4 @@
-use Rattle.std.proofs.Common.{◌≡◌, ◌∙◌, ◌&&◌, Bool, ap, refl, sym}
+use Rattle.std.proofs.Common.{◌≡◌, ◌∙◌, ◌&&◌, ap, refl, sym}
 use Rattle.std.proofs.lemmas.Bool.{and_left}
 use Rattle.zarrs_chunk_tasks.specs.seen.Between.{both_are_exact}
 use Rattle.zarrs_chunk_tasks.proofs.between.with_found.Goals.{else-compared, in-None, in-Some-best, then-compared}

@@ -1,14 +1,14 @@
 use Rattle.std.proofs.Common.{◌∙◌, arith}
-use Rattle.zarrs_chunk_tasks.proofs.TriedEdges.{all_tried, as_many, few_along, few_rows, some_rows}
+use Rattle.zarrs_chunk_tasks.proofs.TriedEdges.{all_tried, as_counted, as_many, few_along, few_rows, some_rows}
 use Rattle.zarrs_chunk_tasks.proofs.edges.tried_edges.Goals as goal
 
 pub thinned-requires : goal.thinned-requires
 thinned-requires g c =
     let is = rw c.deref.ensures.value at (c.in_ok-rows.ensures {u = tt}) in some_rows _ _ is
 
-pub returns-then-shapes_of-gt-MOST_SHAPES-clause-long :
-    goal.returns-then-shapes_of-gt-MOST_SHAPES-clause-long
-returns-then-shapes_of-gt-MOST_SHAPES-clause-long g c =
+pub returns-then-choices_of-gt-MOST_SHAPES-clause-long :
+    goal.returns-then-choices_of-gt-MOST_SHAPES-clause-long
+returns-then-choices_of-gt-MOST_SHAPES-clause-long g c =
     let source = g.G.ChunkGridTraits.dimensions c.args.source.now in
     let target = g.H.ChunkGridTraits.dimensions c.args.target.now in
     let is = rw c.deref.ensures.value at (c.in_ok-rows.ensures {u = tt}) in
@@ -16,18 +16,18 @@ returns-then-shapes_of-gt-MOST_SHAPES-clause-long g c =
     ∙ as_many source target c.args.region.now c.args.moved.now.start c.requires.some c.in_ok-units.units.items (c.in_ok-units.ensures {u = tt})
     c.in_ok-rows.rows.items is
 
-pub returns-then-shapes_of-gt-MOST_SHAPES-clause-are_all :
-    goal.returns-then-shapes_of-gt-MOST_SHAPES-clause-are_all
-returns-then-shapes_of-gt-MOST_SHAPES-clause-are_all g c = λ few.
+pub returns-then-choices_of-gt-MOST_SHAPES-clause-are_all :
+    goal.returns-then-choices_of-gt-MOST_SHAPES-clause-are_all
+returns-then-choices_of-gt-MOST_SHAPES-clause-are_all g c = λ few.
     let source = g.G.ChunkGridTraits.dimensions c.args.source.now in
     let target = g.H.ChunkGridTraits.dimensions c.args.target.now in
     let is = rw c.deref.ensures.value at (c.in_ok-rows.ensures {u = tt}) in
-    let shapes = rw c.deref-2.ensures.value at c.shapes_of.ensures in
+    let shapes = as_counted c.in_ok-rows.rows.items c.choices_of.result (rw c.deref-2.ensures.value at c.choices_of.ensures) in
     let up_to =
     few_rows source target c.args.region.now c.args.moved.now.start c.requires.some c.in_ok-units.units.items (c.in_ok-units.ensures {u = tt})
     c.in_ok-rows.rows.items is few
     in
-    absurd (omega (arith, shapes, up_to, c.if-shapes_of-gt-MOST_SHAPES.true))
+    absurd (omega (arith, shapes, up_to, c.if-choices_of-gt-MOST_SHAPES.true))
 
 pub returns-clause-long : goal.returns-clause-long
 returns-clause-long g c =

@@ -1,6 +1,6 @@
-use Rattle.std.proofs.Common.{◌≡◌, ◌∙◌, ◌&&◌, ap, sym}
+use Rattle.std.proofs.Common.{◌≡◌, ◌∙◌, ◌&&◌, ap, arith, sym}
 use Rattle.std.proofs.lemmas.Bool.{and_left}
-use Rattle.zarrs_chunk_tasks.proofs.ChosenStages.{few_edges, finds, of_nothing, some_edges}
+use Rattle.zarrs_chunk_tasks.proofs.ChosenStages.{finds, of_nothing, some_edges}
 use Rattle.zarrs_chunk_tasks.proofs.stages.cheapest_stages.Goals.{else-tried, then-tried}
 use Rattle.zarrs_chunk_tasks.proofs.stages.cheapest_stages.Goals as goal
 
@@ -13,7 +13,7 @@ pub cheapest_between-requires-clause-some : goal.cheapest_between-requires-claus
 cheapest_between-requires-clause-some g c = rw c.deref.ensures.value (some_edges c.in_ok-tried.tried.rows.items (c.in_ok-tried.ensures {u = tt}).some)
 
 pub cheapest_between-requires-clause-few : goal.cheapest_between-requires-clause-few
-cheapest_between-requires-clause-few g c = rw c.deref.ensures.value (few_edges c.in_ok-tried.tried.rows.items (c.in_ok-tried.ensures {u = tt}).few)
+cheapest_between-requires-clause-few g c = rw c.deref.ensures.value (omega (arith, (c.in_ok-tried.ensures {u = tt}).few))
 
 pub returns-clause-stages : goal.returns-clause-stages
 returns-clause-stages g c = λ some.
