@@ -20,7 +20,7 @@ use zarrs_chunks::{
 
 /// The chunks of an array.
 #[derive(Clone, Copy)]
-enum Chunks<'a> {
+pub(crate) enum Chunks<'a> {
     /// All have these edges.
     Regular(&'a [u64]),
     /// All have these edges, and end with the array.
@@ -31,15 +31,15 @@ enum Chunks<'a> {
 
 /// A copy of some elements of an array to another array. A bound is how many elements a task may hold, how many one read is worth, and what is chosen.
 #[derive(Clone, Copy)]
-struct Row<'a> {
+pub(crate) struct Row<'a> {
     /// The sizes of each array, and its chunks.
-    source: (&'a [u64], Chunks<'a>),
-    target: (&'a [u64], Chunks<'a>),
+    pub(crate) source: (&'a [u64], Chunks<'a>),
+    pub(crate) target: (&'a [u64], Chunks<'a>),
     /// Where the elements begin, and how many they are along each dimension. `None` stands for all of the source.
-    region: Option<(&'a [u64], &'a [u64])>,
+    pub(crate) region: Option<(&'a [u64], &'a [u64])>,
     /// Where they go.
-    at: &'a [u64],
-    bounds: &'a [(u64, u64, &'a str)],
+    pub(crate) at: &'a [u64],
+    pub(crate) bounds: &'a [(u64, u64, &'a str)],
 }
 
 /// Edges, or sizes of tasks.
@@ -61,7 +61,10 @@ fn listed(alloc: Global, numbers: &[u64]) -> Result<ChunkEdgeLengths, Fail> {
 }
 
 /// The grid of an array.
-fn grid(alloc: Global, (sizes, chunks): (&[u64], Chunks<'_>)) -> Result<ChunkGrid, Fail> {
+pub(crate) fn grid(
+    alloc: Global,
+    (sizes, chunks): (&[u64], Chunks<'_>),
+) -> Result<ChunkGrid, Fail> {
     let shape = sizes.to_vec(alloc)?;
     match chunks {
         Chunks::Regular(numbers) => {
@@ -95,16 +98,26 @@ fn line_of(alloc: Global, found: Option<CheapestTasks>) -> Result<String, Fail> 
     }
 }
 
+/// The elements that a row copies.
+pub(crate) fn region_of(
+    alloc: Global,
+    row: &Row<'_>,
+    source: &ChunkGrid,
+) -> Result<ArraySubset, Fail> {
+    match row.region {
+        Some((start, shape)) => {
+            let (start, shape) = (start.to_vec(alloc)?, shape.to_vec(alloc)?);
+            Ok(ArraySubset::new_with_start_shape(start, shape)?)
+        }
+        None => Ok(whole_array(alloc, source)?),
+    }
+}
+
 /// What is chosen for a row under each of its bounds is what it says.
 fn check_row(rt: &(impl Abort + AllocGlobal), row: &Row<'_>) -> Result<(), Fail> {
     let alloc = rt.alloc();
     let (source, target) = (grid(alloc, row.source)?, grid(alloc, row.target)?);
-    let region = match row.region {
-        Some((start, shape)) => {
-            ArraySubset::new_with_start_shape(start.to_vec(alloc)?, shape.to_vec(alloc)?)?
-        }
-        None => whole_array(alloc, &source)?,
-    };
+    let region = region_of(alloc, row, &source)?;
     for (most, worth, expected) in row.bounds {
         let found = cheapest_tasks(alloc, &source, &target, &region, row.at, *most, *worth)?;
         check_text(rt, line_of(alloc, found)?.as_str(), expected);
@@ -427,13 +440,13 @@ struct Copied {
 
 /// A bound, and what one read is worth, in elements.
 #[derive(Clone, Copy)]
-struct Bound {
-    most: u64,
-    worth: u64,
+pub(crate) struct Bound {
+    pub(crate) most: u64,
+    pub(crate) worth: u64,
 }
 
 /// What tasks cost, in elements, and how many the largest buffer has.
-fn told_by(counts: &[CountsAlong], worth: u64) -> (u128, u64) {
+pub(crate) fn told_by(counts: &[CountsAlong], worth: u64) -> (u128, u64) {
     let (mut reads, mut decoded, mut largest) = (1u128, 1u128, 1u64);
     for along in counts {
         reads = reads.saturating_mul(u128::from(along.chunks_read));

@@ -7,6 +7,7 @@
 //! | `rows` | the arrays that are planned, the boxes of their elements, and the lines of parts |
 //! | `tasks` | the tasks of a copy |
 //! | `cheapest` | the cheapest tasks of a copy |
+//! | `stages` | the cheapest stages of a copy |
 //! | `walks` | walks that stay ended, and that go to any part or group |
 //! | `largest` | the shapes of largest chunks |
 //! | `marks` | which chunks of a plan a store has |
@@ -26,6 +27,8 @@ mod marks;
 mod refusals;
 #[cfg(test)]
 mod rows;
+#[cfg(test)]
+mod stages;
 #[cfg(test)]
 mod tasks;
 #[cfg(test)]

@@ -5,11 +5,14 @@ mod CountsOfEach
 mod GroupBoxes
 mod GroupCounts
 mod GroupSizes
+mod ExactStages
+mod FewPieces
 mod Grouped
 mod LargestChunk
 mod LeastCost
 mod LeastReads
 mod LeastStage
+mod OneGrid
 mod RegularSums
 mod Sharing
 mod SideCounts

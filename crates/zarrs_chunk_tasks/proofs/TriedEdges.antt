@@ -1,9 +1,10 @@
 -- The edges that are tried for the chunks of an intermediate array.
-use Rattle.std.proofs.Common.{◌≡◌, ◌∙◌, ℕ, zero, suc, ◌+◌, ◌-◌, ◌*◌, ◌<◌, ◌≤◌, List, [], ◌∷◌, ◌++◌, Contains, Vec, Global, length, map, min, refl, ap, ap₂, subst, sym, get_or, set, take, take_all, arith, ⊎_elim, mul_comm}
+use Rattle.std.proofs.Common.{◌≡◌, ◌∙◌, ℕ, zero, suc, ◌+◌, ◌-◌, ◌*◌, ◌<◌, ◌≤◌, ◌⊎◌, List, [], ◌∷◌, ◌++◌, Contains, Vec, Global, length, map, min, refl, ap, ap₂, subst, sym, get_or, set, take, take_all, arith, inl, inr, ⊎_elim, mul_comm}
 use Rattle.std.proofs.Math.Nat.{div-lt_iff_lt-mul, lt-div-mul-add, mul-le-mul_right}
 use Rattle.std.proofs.lemmas.Bool.{cases_lt}
 use Rattle.std.proofs.lemmas.Grind.{div_ceil_times, get_or_default_zero}
 use Rattle.std.proofs.lemmas.List.{get_or-map, length-map, map-append, map-set, take_more, length-set}
+use Rattle.std.proofs.lemmas.List.Elements.{Contains-get_or, Contains-push_cases}
 use Rattle.std.proofs.lemmas.List.Sums.{sum_by-set}
 use Rattle.std.specs.Int.{div_ceil}
 use Rattle.std.specs.Int.NonZero.{non_zero_u64_get}
@@ -16,15 +17,16 @@ use Rattle.zarrs_chunk_base.proofs.InEach.{length_numbers, length_values}
 use Rattle.zarrs_chunk_axes.specs.Along.{Along}
 use Rattle.zarrs_chunks.specs.Subsets.{IsCover}
 use Rattle.zarrs_chunks.proofs.Covers.{head_some, tail_some}
+use Rattle.zarrs_chunk_parts.specs.Plan.{Covers}
 use Rattle.zarrs_chunk_plan.specs.Counts.{product}
 use Rattle.zarrs_chunk_plan.specs.Region.{moved}
 use Rattle.zarrs_chunk_plan.proofs.Plans.{covers_some}
 use Rattle.zarrs_chunk_plan.proofs.SameBoxes.{same_box_of}
-use Rattle.zarrs_chunk_tasks.specs.Edges.{AreFewPieces, AreLongest, AreTriedEdges, IsTriedEdge, IsTriedShape, both, longest_of_each, most_pieces, most_shapes, pieces_by, rounded_up}
+use Rattle.zarrs_chunk_tasks.specs.Edges.{AreFewPieces, AreLongest, AreTriedEdges, IsTriedEdge, IsTriedShape, longest_of_each, most_pieces, most_shapes, pieces_by, rounded_up, sums}
 use Rattle.zarrs_chunk_tasks.specs.declared.edges.Units.{Units}
 use Rattle.zarrs_chunk_tasks.specs.seen.LargestChunk.{IsLongestOf}
 use Rattle.zarrs_chunk_tasks.specs.seen.Choices.{rows_of}
-use Rattle.zarrs_chunk_tasks.specs.seen.TriedEdges.{AreUnits, HasAllBy, HasPut, IsFew, IsRow, IsSome, edges_in, rows_of_edges, units_of}
+use Rattle.zarrs_chunk_tasks.specs.seen.TriedEdges.{AreUnits, HasAllBy, HasPut, IsFew, IsPartOf, IsRow, IsSome, edges_in, rows_of_edges, units_of}
 use Rattle.zarrs_chunk_tasks.proofs.GroupCounts.{first_within}
 use Rattle.zarrs_chunk_tasks.proofs.Grouped.{next_group}
 use Rattle.zarrs_chunk_tasks.proofs.LeastCost.{times}
@@ -94,6 +96,10 @@ pub units_are : (size unit units : ℕ) → 0 < size → 0 < unit → units ≡ 
 units_are size unit units some_size some_unit is =
     let same = is ∙ ceil_is size unit some_unit in (same, omega (arith, same, some_up size unit some_size some_unit))
 
+-- the edge has so many of the units as make at most so many pieces, and is cut to the size
+abbrev IsByUnits : (size unit units edge : ℕ) → Type 0
+IsByUnits size unit units edge = (pieces : ℕ) × (0 < pieces) × (edge ≡ min size (unit * rounded_up units pieces))
+
 -- The edges of up to so many pieces are there, where so many make pieces of `multiple` units.
 pub record IsSoFar (size unit units : ℕ) (before : List ℕ) (pieces multiple : ℕ) (edges : List ℕ) : Type 0 where
   pub kept : (x : ℕ) → Contains before x → Contains edges x
@@ -101,6 +107,7 @@ pub record IsSoFar (size unit units : ℕ) (before : List ℕ) (pieces multiple 
   pub multiple_is : multiple ≡ rounded_up units pieces
   pub some : 0 < multiple
   pub any : 0 < length edges
+  pub only : (x : ℕ) → Contains edges x → Contains before x ⊎ IsByUnits size unit units x
   pub few : length edges + multiple ≤ length before + units + 1
   pub all : units ≤ most_pieces → (p : ℕ) → 0 < p → p ≤ pieces → Contains edges (min size (unit * rounded_up units p))
 
@@ -117,6 +124,8 @@ first_piece size unit units before after edge some edge_is has =
       multiple_is = sym one;
       some = some;
       any = some_there after edge has.put;
+      only = λ x there.
+          ⊎_elim (λ was. inl was) (λ new. inr (1, omega arith, new ∙ edge_is ∙ ap (λ n. min size (unit * n)) (sym one))) (has.only x there);
       few = omega (arith, has.few);
       all = λ _ p some_p up.
           let is : p ≡ 1 = omega arith in
@@ -137,6 +146,8 @@ next_piece size unit units before edges after pieces multiple next shorter edge 
         multiple_is = shorter_is;
         some = subst (λ n. 0 < n) (sym shorter_is) (some_up units next some some_next);
         any = some_there after edge has.put;
+        only = λ x there.
+            ⊎_elim (λ was. so_far.only x was) (λ new. inr (next, some_next, new ∙ edge_is ∙ ap (λ n. min size (unit * n)) shorter_is)) (has.only x there);
         few = omega (arith, has.few, so_far.few, less, shorter_is, more);
         all = λ few p some_p up.
             ⊎_elim (λ (before_it : p < next).
@@ -157,9 +168,13 @@ pub all_pieces : (size unit units : ℕ) (before edges : List ℕ) (pieces multi
 all_pieces size unit units before edges pieces multiple units_are some ended so_far = record {
   kept = so_far.kept;
   some = so_far.any;
+  only = λ edge there. ⊎_elim (λ was. inl was) (λ by. inr (by_units edge by)) (so_far.only edge there);
   few = omega (arith, so_far.few, so_far.some, units_are);
   all = λ few edge tried. found (omega (arith, few, units_are)) edge tried;
 } where
+  by_units : (edge : ℕ) → IsByUnits size unit units edge → IsTriedEdge size unit edge
+  by_units edge (p, some_p, is) = record { pieces = p; some = some_p; edge_is = is ∙ ap (λ n. min size (unit * rounded_up n p)) units_are }
+
   found : units ≤ most_pieces → (edge : ℕ) → IsTriedEdge size unit edge → Contains edges edge
   found few edge tried =
       let p = tried.pieces in
@@ -177,9 +192,14 @@ all_pieces size unit units before edges pieces multiple units_are some ended so_
 pub row_is : (units : Units) (first after : List ℕ) → HasAllBy units.size units.read [] first → HasAllBy units.size units.written first after → IsRow units after
 row_is units first after read written = record {
   some = written.some;
+  only = λ edge there.
+      ⊎_elim (λ was. ⊎_elim (λ none. absurd (no_edge edge none)) (λ by_read. inl by_read) (read.only edge was)) (λ by_written. inr by_written)
+      (written.only edge there);
   few = omega (arith, read.few, written.few);
   all = λ few edge tried. ⊎_elim (λ by_read. written.kept edge (read.all few.0 edge by_read)) (λ by_written. written.all few.1 edge by_written) tried;
-}
+} where
+  no_edge : (edge : ℕ) → ¬ Contains [] edge
+  no_edge edge (k, within, is) = omega arith
 
 -- ---- rows
 
@@ -268,24 +288,77 @@ still_some rows k part all some =
     rw (map-set (λ (r : Vec NonZeroU64 Global). edges_in r.items) rows k part)
     (all_set (λ row. 0 < length row) (rows_of_edges rows) k (edges_in part.items) all (subst (λ n. 0 < n) (sym (length-map part.items non_zero_u64_get)) some))
 
+-- ---- parts of rows
+
+pub parts_itself : (rows : List (List ℕ)) → AllZip IsPartOf rows rows
+parts_itself [] = tt
+parts_itself (row ∷ rows) = (λ edge there. there, parts_itself rows)
+
+pub parts_of_parts : (rows fewer least : List (List ℕ)) → AllZip IsPartOf rows fewer → AllZip IsPartOf fewer least → AllZip IsPartOf rows least
+parts_of_parts [] [] [] are also = tt
+parts_of_parts (row ∷ rows) (part ∷ fewer) (less ∷ least) are also =
+    (λ edge there. are.0 edge (also.0 edge there), parts_of_parts rows fewer least are.1 also.1)
+parts_of_parts [] (_ ∷ _) least are also = absurd are
+parts_of_parts (_ ∷ _) [] least are also = absurd are
+parts_of_parts [] [] (_ ∷ _) are also = absurd also
+parts_of_parts (_ ∷ _) (_ ∷ _) [] are also = absurd also
+
+-- a part in the place of one row
+part_set : (rows : List (List ℕ)) (k : ℕ) (part : List ℕ) → k < length rows → IsPartOf (get_or rows k []) part → AllZip IsPartOf rows (set rows k part)
+part_set [] k part within is = absurd (omega arith)
+part_set (row ∷ rows) zero part within is = (is, parts_itself rows)
+part_set (row ∷ rows) (suc k) part within is = (λ edge there. there, part_set rows k part (omega arith) is)
+
+-- a shape of parts of rows is one of the rows
+pub shape_of_parts : (rows fewer : List (List ℕ)) (shape : List ℕ) → AllZip IsPartOf rows fewer → AllZip Contains fewer shape → AllZip Contains rows shape
+shape_of_parts [] [] [] are has = tt
+shape_of_parts (row ∷ rows) (part ∷ fewer) (edge ∷ shape) are has = (are.0 edge has.0, shape_of_parts rows fewer shape are.1 has.1)
+shape_of_parts [] (_ ∷ _) shape are has = absurd are
+shape_of_parts (_ ∷ _) [] shape are has = absurd are
+shape_of_parts [] [] (_ ∷ _) are has = absurd has
+shape_of_parts (_ ∷ _) (_ ∷ _) [] are has = absurd has
+
+pub part_more : (row part after : List NonZeroU64) (k : ℕ) (here : NonZeroU64) → IsPartOf (edges_in row) (edges_in part) → here ≡ get_or row k here
+    → k < length row → after ≡ part ++ here ∷ [] → IsPartOf (edges_in row) (edges_in after)
+part_more row part after k here so_far is within put = λ x there.
+    let many = length-map row non_zero_u64_get in
+    let at = get_or-map non_zero_u64_get row k here x within ∙ ap non_zero_u64_get (sym is) in
+    let first = Contains-get_or (edges_in row) k x (omega (arith, many, within)) in
+    ⊎_elim (λ was. so_far x was) (λ (same : non_zero_u64_get here ≡ x). subst (Contains (edges_in row)) (at ∙ same) first)
+    (Contains-push_cases (edges_in part) (non_zero_u64_get here) x
+    (subst (λ xs. Contains xs x) (ap edges_in put ∙ map-append non_zero_u64_get part (here ∷ [])) there))
+
+part_in_place : (rows : List (Vec NonZeroU64 Global)) (k : ℕ) (row part : Vec NonZeroU64 Global) → k < length rows → row ≡ get_or rows k row
+    → IsPartOf (edges_in row.items) (edges_in part.items) → AllZip IsPartOf (rows_of_edges rows) (rows_of_edges (set rows k part))
+part_in_place rows k row part within is are =
+    let many = length-map rows (λ (r : Vec NonZeroU64 Global). edges_in r.items) in
+    let at =
+    get_or-map (λ (r : Vec NonZeroU64 Global). edges_in r.items) rows k row [] within ∙ ap (λ (r : Vec NonZeroU64 Global). edges_in r.items) (sym is)
+    in
+    rw (map-set (λ (r : Vec NonZeroU64 Global). edges_in r.items) rows k part)
+    (part_set (rows_of_edges rows) k (edges_in part.items) (omega (arith, many, within)) (subst (λ (r : List ℕ). IsPartOf r (edges_in part.items)) (sym at) are))
+
 -- with a part of the longest row in its place
 pub record IsThinner (rows fewer : List (Vec NonZeroU64 Global)) : Type 0 where
   pub long : length fewer ≡ length rows
   pub some : AllByRecursion (λ row. 0 < length row) (rows_of_edges fewer)
+  pub parts : AllZip IsPartOf (rows_of_edges rows) (rows_of_edges fewer)
   pub smaller : sum_by (λ (r : Vec NonZeroU64 Global). length r.items) fewer < sum_by (λ (r : Vec NonZeroU64 Global). length r.items) rows
 
 pub thinner : (rows : List (Vec NonZeroU64 Global)) (k shapes : ℕ) (row part : Vec NonZeroU64 Global)
     → shapes ≡ min greatest (product (map length (rows_of_edges rows))) → 1 < shapes → k < length rows
     → ((n : ℕ) → n < length rows → length (get_or (rows_of_edges rows) n []) ≤ length (get_or (rows_of_edges rows) k []))
     → row ≡ get_or rows k row → AllByRecursion (λ row. 0 < length row) (rows_of_edges rows)
-    → (0 < length row.items → 0 < length part.items) → (1 < length row.items → length part.items < length row.items) → IsThinner rows (set rows k part)
-thinner rows k shapes row part shapes_are more within longest is all some fewer =
+    → (0 < length row.items → 0 < length part.items) → (1 < length row.items → length part.items < length row.items)
+    → IsPartOf (edges_in row.items) (edges_in part.items) → IsThinner rows (set rows k part)
+thinner rows k shapes row part shapes_are more within longest is all some fewer part_is =
     let here = row_at rows k row within is in
     let least_two = longest_has_some rows (length (get_or (rows_of_edges rows) k [])) longest (omega (arith, shapes_are, more)) in
     let two : 1 < length row.items = omega (arith, here, least_two) in
     record {
       long = length-set rows k part;
       some = still_some rows k part all (some (omega (arith, two)));
+      parts = part_in_place rows k row part within is part_is;
       smaller = shorter_row rows k row part within is (fewer two);
     }
 
@@ -358,18 +431,18 @@ module _ (ds : List Dimension) (b cover : Box) (chains : AllByRecursion IsChain 
   each_longest k edges ended so_far =
       rw (all_found k edges ended so_far) (some_longest ds cover.start cover.shape b.start b.shape is.some is.last)
 
--- there is one list of them
-same_longest : (ds : List Dimension) (b : Box) (one other : List ℕ) → IsBox b → (¬ IsEmptyBox b) → AreLongest ds b one → AreLongest ds b other → one ≡ other
-same_longest ds b one other is_box some first second =
+-- there is one cover
+pub one_cover : (ds : List Dimension) (b one other : Box) → IsBox b → (¬ IsEmptyBox b) → Covers ds b one → Covers ds b other → one ≡ other
+one_cover ds b one other is_box some first second =
     let begins = first_within b.start b.shape is_box.lengths some in
-    let (chunk, home) = first.is_cover.homes b.start begins in
-    let inside = (first.is_cover.named chunk).1 (b.start, home, begins) in
-    let same = same_box_of first.cover second.cover chunk inside
-    (λ x. (
-      λ there. (second.is_cover.named x).1 ((first.is_cover.named x).0 there),
-      λ there. (first.is_cover.named x).1 ((second.is_cover.named x).0 there),
-    ))
-    in
+    let (chunk, home) = first.homes b.start begins in
+    same_box_of one other chunk ((first.named chunk).1 (b.start, home, begins))
+    (λ x. (λ there. (second.named x).1 ((first.named x).0 there), λ there. (first.named x).1 ((second.named x).0 there)))
+
+-- there is one list of longest edges
+pub same_longest : (ds : List Dimension) (b : Box) (one other : List ℕ) → IsBox b → (¬ IsEmptyBox b) → AreLongest ds b one → AreLongest ds b other → one ≡ other
+same_longest ds b one other is_box some first second =
+    let same = one_cover ds b first.cover second.cover is_box some first.is_cover second.is_cover in
     first.are_longest ∙ ap (λ (cover : Box). longest_of_each ds cover.start cover.shape) same ∙ sym second.are_longest
 
 -- ---- units
@@ -428,8 +501,10 @@ are_units source target region to read written k units same is_region is_to some
     record {
       read = read;
       is_read = reads;
+      read_long = read_long;
       written = written;
       is_written = subst (λ (shape : List ℕ). AreLongest target (box_of to.start shape) written) same writes;
+      written_long = written_long ∙ ap length same;
       region_is_box = is_region;
       moved_is_box = subst (λ (shape : List ℕ). IsBox (box_of to.start shape)) same is_to;
       are = all;
@@ -448,11 +523,22 @@ has_all (n ∷ sizes) (r ∷ read) (w ∷ written) (edge ∷ edges) (row ∷ row
 has_all (n ∷ sizes) (r ∷ read) (w ∷ written) (edge ∷ edges) [] is few tried = absurd is
 has_all _ _ _ _ rows is few tried = absurd tried
 
+has_only : (sizes read written edges : List ℕ) (rows : List (List ℕ)) → length read ≡ length sizes → length written ≡ length sizes
+    → AllZip IsRow (units_of sizes read written) rows → AllZip Contains rows edges → AreTriedEdges sizes read written edges
+has_only [] [] [] [] [] e f is has = tt
+has_only (n ∷ sizes) (r ∷ read) (w ∷ written) (edge ∷ edges) (row ∷ rows) e f is has =
+    (is.0.only edge has.0, has_only sizes read written edges rows (omega arith) (omega arith) is.1 has.1)
+has_only [] [] [] edges (_ ∷ _) e f is has = absurd is
+has_only [] [] [] (_ ∷ _) [] e f is has = absurd has
+has_only (_ ∷ _) (_ ∷ _) (_ ∷ _) edges [] e f is has = absurd is
+has_only (_ ∷ _) (_ ∷ _) (_ ∷ _) [] (_ ∷ _) e f is has = absurd has
+has_only _ _ _ edges rows e f is has = absurd (omega arith)
+
 few_together : (sizes read written : List ℕ) (rows : List (List ℕ)) → AllZip IsRow (units_of sizes read written) rows
-    → product (map length rows) ≤ product (both (pieces_by sizes read) (pieces_by sizes written))
+    → product (map length rows) ≤ product (sums (pieces_by sizes read) (pieces_by sizes written))
 few_together (n ∷ sizes) (r ∷ read) (w ∷ written) (row ∷ rows) is =
     times (length row) (rounded_up n (min r n) + rounded_up n (min w n)) (product (map length rows))
-    (product (both (pieces_by sizes read) (pieces_by sizes written))) is.0.few (few_together sizes read written rows is.1)
+    (product (sums (pieces_by sizes read) (pieces_by sizes written))) is.0.few (few_together sizes read written rows is.1)
 few_together (n ∷ sizes) (r ∷ read) (w ∷ written) [] is = absurd is
 few_together [] read written [] is = omega arith
 few_together [] read written (_ ∷ _) is = absurd is
@@ -502,6 +588,16 @@ module _ (source target : List Dimension) (region : Box) (at : List ℕ) (some :
       (subst (λ (read : List ℕ). AreTriedEdges region.shape read are.written shape) (same_read tried.read tried.is_read)
       (subst (λ (written : List ℕ). AreTriedEdges region.shape tried.read written shape) (same_written tried.written tried.is_written) tried.edges))
 
+  -- and nothing else is
+  pub only_tried : (shape : List ℕ) → AllZip Contains (rows_of_edges rows) shape → IsTriedShape source target region at shape
+  only_tried shape has = record {
+    read = are.read;
+    is_read = are.is_read;
+    written = are.written;
+    is_written = are.is_written;
+    edges = has_only region.shape are.read are.written shape (rows_of_edges rows) are.read_long are.written_long along has;
+  }
+
   pub few_along : AreFewPieces source target region at → AllByRecursion IsFew units
   few_along few =
       subst (AllByRecursion IsFew) (sym are.are)
@@ -515,5 +611,5 @@ module _ (source target : List Dimension) (region : Box) (at : List ℕ) (some :
       let together = few_together region.shape are.read are.written (rows_of_edges rows) along in
       let read_is = same_read few.read few.is_read in
       let written_is = same_written few.written few.is_written in
-      let same = ap₂ (λ (read written : List ℕ). product (both (pieces_by region.shape read) (pieces_by region.shape written))) read_is written_is in
-      omega (arith, together, same, few.few_shapes)
+      let same = ap₂ (λ (read written : List ℕ). product (sums (pieces_by region.shape read) (pieces_by region.shape written))) read_is written_is in
+      omega (arith, together, same, few.few_together)

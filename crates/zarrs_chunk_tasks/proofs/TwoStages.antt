@@ -2,7 +2,7 @@
 use Rattle.std.proofs.Common.{◌≡◌, ◌∙◌, ℕ, zero, suc, ◌+◌, ◌*◌, ◌/◌, ◌%◌, ◌<◌, ◌≤◌, IsTrue, List, [], ◌∷◌, ◌++◌, Vec, Global, Bool, true, false, IfSome, MatchOption, Option, None, Some, drop, length, map, slice_index_or, refl, ap, ap₂, subst, sym, arith, ⊎_elim, ◌&&◌, replicate}
 use Rattle.std.proofs.Math.Nat.{div-eq_of_lt-le, mod-add-div', mod-lt, mul-le-mul_right, mul_comm}
 use Rattle.std.proofs.lemmas.List.{append-nil, drop_all, length-map}
-use Rattle.std.proofs.lemmas.Bool.{cases_lt, true≢false}
+use Rattle.std.proofs.lemmas.Bool.{and_from, cases_lt, true≢false}
 use Rattle.std.specs.Int.NonZero.{non_zero_u64_get}
 use Rattle.std.specs.List.{AllByRecursion}
 use Rattle.std.specs.declared.num.NonZeroU64.{NonZeroU64}
@@ -18,7 +18,7 @@ use Rattle.zarrs_chunk_tasks.specs.Stages.{BothCostAtLeast, CostAtLeast, NoneFit
 use Rattle.zarrs_chunk_tasks.specs.declared.between.Compared.{Compared}
 use Rattle.zarrs_chunk_tasks.specs.declared.between.TwoStages.{TwoStages}
 use Rattle.zarrs_chunk_tasks.specs.declared.cheapest.CheapestTasks.{CheapestTasks}
-use Rattle.zarrs_chunk_tasks.specs.seen.Between.{AreBy, AreChosen, FindsBoth, IsCheaper, IsCompared, IsOneOf, IsShapeAt, Keeps, KeepsOne, NoneIsBelow, best_cost, both_are_exact, cost_of_both}
+use Rattle.zarrs_chunk_tasks.specs.seen.Between.{AreBy, AreChosen, AreExactBy, FindsBoth, IsCheaper, IsCompared, IsOneOf, IsShapeAt, Keeps, KeepsOne, NoneIsBelow, best_cost, both_are_exact, cost_of_both}
 use Rattle.zarrs_chunk_tasks.specs.seen.Choices.{IsBelow, rows_of}
 
 -- ---- shapes
@@ -88,6 +88,14 @@ one_shape [] number (_ ∷ _) other some is are = absurd is
 one_shape [] number [] (_ ∷ _) some is are = absurd are
 one_shape (_ ∷ _) number [] other some is are = absurd is
 one_shape (_ ∷ _) number (_ ∷ _) [] some is are = absurd are
+
+-- the shape of a number is one of them
+pub is_one_of : (rows : List (List NonZeroU64)) (number : ℕ) (shape : List NonZeroU64) → SomeInEach rows → IsShapeAt rows number shape → IsOneOf rows shape
+is_one_of [] number [] some is = tt
+is_one_of (row ∷ rows) number (e ∷ shape) some is =
+    ((number % length row, mod_below number (length row) some.0, is.0), is_one_of rows (number / length row) shape some.1 is.1)
+is_one_of [] number (_ ∷ _) some is = absurd is
+is_one_of (_ ∷ _) number [] some is = absurd is
 
 -- each of the shapes has a number
 pub has_number : (rows : List (List NonZeroU64)) (shape : List NonZeroU64) → IsOneOf rows shape
@@ -184,13 +192,13 @@ module _ (source target : List Dimension) (region : Box) (at : List ℕ) (most w
   exact_both two are exact =
       let (one, other) = both_true two.first.is_exact two.second.is_exact exact in
       both_at_least two.first.cost two.second.cost (cost_of_both two)
-      (exact_at_least source between region (array_box between).start most worth two.first are.first one)
-      (exact_at_least between target (array_box between) at most worth two.second are.second other) (omega arith)
+      (exact_at_least source between region (array_box between).start most worth two.first are.first.chosen one)
+      (exact_at_least between target (array_box between) at most worth two.second are.second.chosen other) (omega arith)
 
 -- ---- comparing
 
 module _ (source target : List Dimension) (region : Box) (at : List ℕ) (most worth : ℕ) where
-  abbrev Chosen : TwoStages → Type 0
+  abbrev Chosen : List (List NonZeroU64) → TwoStages → Type 0
   Chosen = AreChosen source target region at most worth
 
   abbrev Compares : Compared → List NonZeroU64 → Type 0
@@ -262,23 +270,33 @@ module _ (source target : List Dimension) (region : Box) (at : List ℕ) (most w
   }
 
   -- the best two stages are chosen
-  chosen_after : (best : Option TwoStages) (two : TwoStages) (after : Option TwoStages) → KeepsOne best two after → Chosen two → IfSome best Chosen
-      → IfSome after Chosen
-  chosen_after None two after kept is chosen = rw kept is
-  chosen_after (Some one) two after (cheaper, picked, kept) is chosen =
+  chosen_after : (rows : List (List NonZeroU64)) (best : Option TwoStages) (two : TwoStages) (after : Option TwoStages) → KeepsOne best two after
+      → Chosen rows two → IfSome best (Chosen rows) → IfSome after (Chosen rows)
+  chosen_after rows None two after kept is chosen = rw kept is
+  chosen_after rows (Some one) two after (cheaper, picked, kept) is chosen =
       rw kept (⊎_elim (λ (first : (cheaper ≡ one) × (cost_of_both one ≤ cost_of_both two)). rw first.0 chosen)
       (λ (second : (cheaper ≡ two) × (cost_of_both two < cost_of_both one)). rw second.0 is) picked)
 
-  pub best_chosen : (before after : Compared) (found : Option TwoStages) (shape : List NonZeroU64) → Keeps before found after
-      → Finds shape (best_cost before.best) found → IfSome before.best Chosen → IfSome after.best Chosen
-  best_chosen before after None shape keeps finds chosen = rw keeps chosen
-  best_chosen before after (Some two) shape keeps finds chosen =
-      let is : Chosen two = record {
+  pub best_chosen : (before after : Compared) (found : Option TwoStages) (rows : List (List NonZeroU64)) (shape : List NonZeroU64) → IsOneOf rows shape
+      → Keeps before found after → Finds shape (best_cost before.best) found → IfSome before.best (Chosen rows) → IfSome after.best (Chosen rows)
+  best_chosen before after None rows shape one_of keeps finds chosen = rw keeps chosen
+  best_chosen before after (Some two) rows shape one_of keeps finds chosen =
+      let is : Chosen rows two = record {
+        one_of = subst (IsOneOf rows) (sym finds.finds.0) one_of;
         between = finds.between;
         made = subst (λ edges. AreEqualEdges finds.between region.shape (map non_zero_u64_get edges)) (sym finds.finds.0) finds.made;
         are_by = finds.finds.1;
       } in
-      chosen_after before.best two after.best keeps.1 is chosen
+      chosen_after rows before.best two after.best keeps.1 is chosen
+
+  -- where all two stages are exact, the best ones are
+  pub still_exact : (before after : Compared) (found : Option TwoStages) (rows : List (List NonZeroU64)) (shape : List NonZeroU64) → IsOneOf rows shape
+      → Keeps before found after → Finds shape (best_cost before.best) found
+      → (AreExactBy source target region at most worth rows → IsTrue before.is_exact) → AreExactBy source target region at most worth rows → IsTrue after.is_exact
+  still_exact before after None rows shape one_of keeps finds so_far all = subst (λ (c : Compared). IsTrue c.is_exact) (sym keeps) (so_far all)
+  still_exact before after (Some two) rows shape one_of keeps finds so_far all =
+      keeps.0
+      ∙ and_from before.is_exact (both_are_exact two) (so_far all) (all shape one_of finds.between finds.made two finds.finds.1)
 
   -- the shapes up to a number are compared
   pub shapes_compared : (before after : Compared) (found : Option TwoStages) (rows : List (List NonZeroU64)) (number : ℕ) (shape : List NonZeroU64)

@@ -13,7 +13,8 @@ use Rattle.zarrs_chunk_plan.specs.Region.{moved}
 abbrev pub rounded_up : (n k : ℕ) → ℕ
 rounded_up n k = (n + (k - 1)) / k
 
--- An edge that is tried along a dimension of `size` elements: it has whole chunks of `unit` elements, so many that they cut the dimension into so many pieces.
+-- An edge that is tried. The dimension is cut into units of `unit` elements. The edge is the least whole number of units that makes at most `pieces` pieces, cut
+-- to the size.
 pub record IsTriedEdge (size unit edge : ℕ) : Type 0 where
   pub pieces : ℕ
   pub some : 0 < pieces
@@ -28,7 +29,7 @@ abbrev pub longest_of_each : List Dimension → (first many : List ℕ) → List
 longest_of_each (d ∷ ds) (c ∷ first) (n ∷ many) = longest_from d c n ∷ longest_of_each ds first many
 longest_of_each _ _ _ = []
 
--- how long the longest one is along each dimension, of the chunks that hold some of a box
+-- the longest edge along each dimension, of the chunks that hold some of a box
 pub record AreLongest (ds : List Dimension) (b : Box) (edges : List ℕ) : Type 0 where
   pub cover : Box
   pub is_cover : Covers ds b cover
@@ -47,15 +48,15 @@ pieces_by (n ∷ sizes) (edge ∷ edges) = rounded_up n (min edge n) ∷ pieces_
 pieces_by _ _ = []
 
 -- the sum of two numbers along each dimension
-abbrev pub both : List ℕ → List ℕ → List ℕ
-both (m ∷ ms) (n ∷ ns) = (m + n) ∷ both ms ns
-both _ _ = []
+abbrev pub sums : List ℕ → List ℕ → List ℕ
+sums (m ∷ ms) (n ∷ ns) = (m + n) ∷ sums ms ns
+sums _ _ = []
 
--- up to how many pieces along a dimension each edge is tried
+-- if no more pieces than this are along a dimension, each edge is tried
 abbrev pub most_pieces : ℕ
 most_pieces = 65536
 
--- how many shapes are tried at most
+-- if there are no more shapes than this, each shape is tried
 abbrev pub most_shapes : ℕ
 most_shapes = 131072
 
@@ -69,8 +70,8 @@ module _ (source target : List Dimension) (region : Box) (at : List ℕ) where
     pub is_written : AreLongest target (moved at region) written
     pub edges : AreTriedEdges region.shape read written shape
 
-  -- The pieces are few: along each dimension the longest chunk of the source cuts the region into at most 2^16, and so does the longest one of the target. And
-  -- the product over the dimensions of both numbers together is at most 2^17.
+  -- Along each dimension the longest chunk of the source cuts the region into at most 2^16 pieces, and so does the longest one of the target. The sum of both
+  -- numbers is taken along each dimension, and the product of these sums is at most 2^17.
   pub record AreFewPieces : Type 0 where
     pub read : List ℕ
     pub is_read : AreLongest source region read
@@ -78,4 +79,4 @@ module _ (source target : List Dimension) (region : Box) (at : List ℕ) where
     pub is_written : AreLongest target (moved at region) written
     pub few_read : AllByRecursion (λ n. n ≤ most_pieces) (pieces_by region.shape read)
     pub few_written : AllByRecursion (λ n. n ≤ most_pieces) (pieces_by region.shape written)
-    pub few_shapes : product (both (pieces_by region.shape read) (pieces_by region.shape written)) ≤ most_shapes
+    pub few_together : product (sums (pieces_by region.shape read) (pieces_by region.shape written)) ≤ most_shapes

@@ -1,5 +1,5 @@
 //! Two stages: the chunk shape of the intermediate array by which they cost the least.
-ghost use Rattle.std.specs.Prelude.{◌≡◌, ◌≤◌, ◌<◌, IfOk, IfSome, List, Ok, length, map};
+ghost use Rattle.std.specs.Prelude.{◌≡◌, ◌≤◌, ◌<◌, IfOk, IfSome, IsTrue, List, Ok, length, map};
 ghost use Rattle.std.specs.Int.NonZero.{non_zero_u64_get};
 ghost use Rattle.std.specs.List.{AllByRecursion};
 ghost use Rattle.std.specs.declared.num.NonZeroU64.{NonZeroU64};
@@ -7,7 +7,7 @@ ghost use Rattle.zarrs_chunk_axes.specs.EqualEdges.{AreEqualEdges};
 ghost use Rattle.zarrs_chunk_base.specs.Dimension.{array_sizes};
 ghost use Rattle.zarrs_chunk_base.specs.Greatest.{greatest};
 ghost use Rattle.zarrs_chunk_plan.specs.Counts.{product};
-ghost use Rattle.zarrs_chunk_tasks.specs.seen.Between.{AreChosen, CanBeStaged, FindsBoth, IsCheaper, IsCompared, IsOneOf, IsShapeAt, Keeps, best_cost, both_are_exact, cost_of_both};
+ghost use Rattle.zarrs_chunk_tasks.specs.seen.Between.{AreChosen, AreExactBy, CanBeStaged, FindsBoth, IsCheaper, IsCompared, IsOneOf, IsShapeAt, Keeps, best_cost, both_are_exact, cost_of_both};
 ghost use Rattle.zarrs_chunk_tasks.specs.seen.Choices.{rows_of};
 ghost use Rattle.zarrs_chunks.specs.seen.Grids.{regular_of};
 
@@ -87,7 +87,11 @@ pub(crate) fn cheapest_between<G: ChunkGridTraits, H: ChunkGridTraits>(
     ensures best { IfOk result (λ compared. IfSome compared.best (AreChosen
         (G.dimensions staged.now.source.now) (H.dimensions staged.now.target.now)
         staged.now.region.now staged.now.moved.now.start staged.now.max_elements
-        staged.now.read_elements)) }
+        staged.now.read_elements (rows_of edges.now))) }
+    ensures exact { IfOk result (λ compared. AreExactBy (G.dimensions staged.now.source.now)
+        (H.dimensions staged.now.target.now) staged.now.region.now staged.now.moved.now.start
+        staged.now.max_elements staged.now.read_elements (rows_of edges.now)
+        → IsTrue compared.is_exact) }
     ensures all { IfOk result (λ compared. (shape : List NonZeroU64)
         → IsOneOf (rows_of edges.now) shape → IsCompared (G.dimensions staged.now.source.now)
         (H.dimensions staged.now.target.now) staged.now.region.now staged.now.moved.now.start
@@ -133,7 +137,7 @@ fn cost_of(best: &Option<TwoStages>) -> Option<u128>
     }
 }
 
-/// Compares two stages that are found with the best ones so far.
+/// Compares two stages that are found with the best ones before them.
 fn with_found(compared: Compared, found: Option<TwoStages>) -> Compared
     ensures { Keeps compared found result }
 {
@@ -253,7 +257,7 @@ fn grid_of(
     }
 }
 
-/// The tasks that are chosen for a region that lies in both arrays. A refusal tells that memory ran out.
+/// The tasks that are chosen for a region that lies in both arrays. If it is refused, memory ran out.
 ///
 /// # Errors
 /// Out of memory.

@@ -9,7 +9,7 @@ ghost use Rattle.zarrs_chunk_plan.specs.Counts.{product};
 ghost use Rattle.zarrs_chunk_plan.specs.Region.{LiesIn};
 ghost use Rattle.zarrs_chunk_tasks.specs.Edges.{AreFewPieces, AreLongest, IsTriedShape, most_pieces, most_shapes, rounded_up};
 ghost use Rattle.zarrs_chunk_tasks.specs.seen.Choices.{rows_of};
-ghost use Rattle.zarrs_chunk_tasks.specs.seen.TriedEdges.{AreUnits, HasAllBy, HasPut, IsFew, IsRow, IsSome, edges_in, rows_of_edges};
+ghost use Rattle.zarrs_chunk_tasks.specs.seen.TriedEdges.{AreUnits, HasAllBy, HasPut, IsFew, IsPartOf, IsRow, IsSome, edges_in, rows_of_edges};
 
 use crate::largest_chunk::longest_along;
 use crate::tried::choices_of;
@@ -44,13 +44,13 @@ struct Units {
     written: u64,
 }
 
-/// Returns the edges that are tried for the chunks of an array between two others. `region` is a box of the source's array, which isn't empty, and `moved` is the
-/// box of the same shape in the target's that it is copied to. The array between them has this shape, too.
+/// Returns the edges that are tried for the chunks of an intermediate array. `region` is a box of the source's array, which isn't empty. `moved` is where it goes in
+/// the target's, of the same shape. The intermediate array has this shape, too.
 ///
-/// An edge has whole chunks of the source, the longest one of those that hold some of the region, or whole chunks of the target, and is cut to the size of the
-/// region. It has as many of them as it takes to cut the region into one piece, into two, three and so on. Where there are more than 2^16 chunks along a
-/// dimension, the number of pieces at least doubles from one edge to the next. While there are more than 2^17 shapes, every second edge is left out along the
-/// dimension that has the most.
+/// Along each dimension an edge is made of whole units. A unit is as long as the longest chunk of the source, of those that hold some of the region, or as the
+/// longest one of the target. An edge has the least number of units that cuts the region into at most one piece, two, three and so on. It is cut to the region's
+/// size. If there are more than 2^16 units along a dimension, the number of pieces at least doubles from one edge to the next. While there are more than 2^17
+/// shapes, every second edge is left out along the dimension that has the most.
 ///
 /// # Errors
 /// Out of memory.
@@ -72,6 +72,9 @@ pub(crate) fn tried_edges<G: ChunkGridTraits, H: ChunkGridTraits>(
     ensures all { IfOk result (λ tried. IsTrue tried.are_all → (shape : List ℕ)
         → IsTriedShape (G.dimensions source.now) (H.dimensions target.now) region.now
         moved.now.start shape → AllZip Contains (rows_of_edges tried.rows.items) shape) }
+    ensures tried { IfOk result (λ tried. (shape : List ℕ) → AllZip Contains
+        (rows_of_edges tried.rows.items) shape → IsTriedShape (G.dimensions source.now)
+        (H.dimensions target.now) region.now moved.now.start shape) }
     ensures are_all { IfOk result (λ tried. AreFewPieces (G.dimensions source.now)
         (H.dimensions target.now) region.now moved.now.start → IsTrue tried.are_all) }
 {
@@ -287,6 +290,8 @@ fn thinned(
     ensures some { IfOk result (λ fewer. AllByRecursion (λ row. 0 < length row)
         (rows_of_edges fewer.items)) }
     ensures few { IfOk result (λ fewer. product (map length (rows_of fewer.items)) ≤ most_shapes) }
+    ensures parts { IfOk result (λ fewer. AllZip IsPartOf (rows_of_edges rows.items)
+        (rows_of_edges fewer.items)) }
 {
     while choices_of(&rows) > MOST_SHAPES {
         let longest = longest_row(&rows);
@@ -318,6 +323,7 @@ fn longest_row(rows: &[Vec<NonZeroU64>]) -> usize
 fn every_second(alloc: Global, row: &[NonZeroU64]) -> Result<Vec<NonZeroU64>, AllocError>
     ensures some { 0 < length row.now → IfOk result (λ part. 0 < length part.items) }
     ensures fewer { 1 < length row.now → IfOk result (λ part. length part.items < length row.now) }
+    ensures part { IfOk result (λ part. IsPartOf (edges_in row.now) (edges_in part.items)) }
 {
     let mut part = Vec::new(alloc);
     for half in 0..row.len().div_ceil(2) {

@@ -18,7 +18,7 @@
 //! | `counts` | how much they read and write, without a walk |
 //! | `cheapest` | the tasks that cost the least, under a bound of memory |
 //! | `stages` | one stage or two, whichever costs the least |
-//! | `between` | two stages: the intermediate array between them |
+//! | `between` | two stages, by an intermediate array |
 //! | `edges` | the edges that are tried for its chunks |
 //! | `least` | what tasks cost at least, under a bound of memory |
 //! | `tried` | the numbers of chunks that are tried for them |

@@ -4,7 +4,7 @@ ghost use Rattle.zarrs_chunk_base.specs.ArraySubset.{IsEmptyBox};
 ghost use Rattle.zarrs_chunk_base.specs.Dimension.{array_sizes};
 ghost use Rattle.zarrs_chunk_base.specs.Refusal.{HasMemory, OrMemory};
 ghost use Rattle.zarrs_chunk_plan.specs.Region.{CanBeMoved, IsRegionFault};
-ghost use Rattle.zarrs_chunk_tasks.specs.Stages.{FindsStages, IsOfNoStages};
+ghost use Rattle.zarrs_chunk_tasks.specs.Stages.{AreExactIfFew, FindsStages, IsOfEmptyRegion};
 ghost use Rattle.zarrs_chunk_tasks.specs.seen.Stages.{IsOfOne, IsOfTwo, IsTheCheaper};
 
 use crate::between::{Staged, TwoStages, cheapest_between};
@@ -15,30 +15,37 @@ use zarrs_chunk_base::{ArraySubset, ChunkShape, Refusal};
 use zarrs_chunk_plan::{RegionError, moved_box};
 use zarrs_chunks::ChunkGridTraits;
 
-/// Stages that copy a region one after another, each by tasks.
+/// The stages of a copy, one after another, and what they cost.
 #[derive(Debug, Drop)]
 pub struct CheapestStages {
-    /// The chunk shape of each intermediate array. It has the shape of the region, and a regular grid.
+    /// The chunk shape of each intermediate array. An intermediate array has the region's shape and a regular grid.
     pub chunks: Vec<ChunkShape>,
     /// The tasks of each stage. There is one stage more than there are intermediate arrays.
     pub tasks: Vec<CheapestTasks>,
     /// What all stages cost, in elements. 2^128 - 1 stands for all greater numbers too.
     pub cost: u128,
-    /// Whether all was compared. If so, no stages that are tried cost less, with whatever tasks that fit.
+    /// If `true`, no tasks of one stage that fit cost less, and none of two stages by a chunk shape that is tried. If `false`, some may.
     pub is_exact: bool,
 }
 
-/// Chooses in how many stages a region is copied, one or two, and by which tasks, so that all stages cost the least under a bound of memory. The tasks of each
-/// stage fit and cost as in [`cheapest_tasks`]. `None` if no tasks fit.
+/// Chooses whether a region is copied in one stage or in two, and by which tasks, so that all stages cost the least under a bound of memory. The tasks of a stage
+/// fit and cost as in [`cheapest_tasks`]. `None` if no tasks fit.
 ///
-/// The first of two stages writes an intermediate array of the region's shape, and the second one reads it. It has a regular grid. Its chunk shape is one of those
-/// that are tried. Along each dimension the edges that are tried are made of whole longest chunks of the source, or of the target, and cut to the size of the
-/// region: as many as it takes to cut the region into one piece, into two, three and so on.
+/// The first of two stages writes an intermediate array, and the second one reads it. The intermediate array has the region's shape and a regular grid. It isn't
+/// counted in `max_elements`, but a largest chunk of it is. To write it costs nothing, and to read it costs what it costs to read the source.
 ///
-/// If there are more than 2^16 such pieces along a dimension, or more than 2^17 shapes, fewer are tried, and `is_exact` is `false`.
+/// The chunk shapes that are tried have an edge from a list along each dimension. An edge of the list is a multiple of the longest chunk's edge, in the source or
+/// in the target, and is cut to the region's size. It is the least such multiple that cuts the region into at most 1, 2, 3 .. pieces.
+///
+/// If the region has more than 2^16 such longest chunks along a dimension, or if there are more than 2^17 shapes, not all are tried. Then `is_exact` is `false`.
+///
+/// An empty region is copied in one stage, which costs nothing.
+///
+/// It takes the time of [`cheapest_tasks`] for each shape that may cost less than the best one before it. The bound is what the reads of both stages cost at
+/// least in this memory.
 ///
 /// # Errors
-/// As of [`cheapest_tasks`].
+/// As of [`moved_box`]. Or out of memory.
 pub fn cheapest_stages<G: ChunkGridTraits, H: ChunkGridTraits>(
     alloc: Global,
     source: &G,
@@ -50,8 +57,10 @@ pub fn cheapest_stages<G: ChunkGridTraits, H: ChunkGridTraits>(
 ) -> Result<Option<CheapestStages>, Refusal<RegionError>>
     ensures stages { (¬ IsEmptyBox region.now) → IfOk result (FindsStages (G.dimensions source.now)
         (H.dimensions target.now) region.now at.now max_elements read_elements) }
+    ensures exact { (¬ IsEmptyBox region.now) → IfOk result (λ found. IfSome found
+        (AreExactIfFew (G.dimensions source.now) (H.dimensions target.now) region.now at.now)) }
     ensures empty { IsEmptyBox region.now → IfOk result (λ found. MatchOption found ⊥
-        (IsOfNoStages (G.dimensions source.now))) }
+        (IsOfEmptyRegion (G.dimensions source.now))) }
     ensures lies { IfOk result (λ _. CanBeMoved (array_sizes (G.dimensions source.now))
         (array_sizes (H.dimensions target.now)) region.now at.now) }
     ensures refused { IfErr result (OrMemory (IsRegionFault (array_sizes (G.dimensions source.now))
@@ -59,6 +68,7 @@ pub fn cheapest_stages<G: ChunkGridTraits, H: ChunkGridTraits>(
     ensures faults_first { (¬ CanBeMoved (array_sizes (G.dimensions source.now))
         (array_sizes (H.dimensions target.now)) region.now at.now) → HasMemory result }
 {
+    region.is_a_box();
     let moved = moved_box(alloc, source, target, region, at)?;
     let one = cheapest_tasks(
         alloc,

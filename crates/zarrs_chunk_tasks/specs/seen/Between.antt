@@ -8,9 +8,8 @@ use Rattle.zarrs_chunk_base.specs.Dimension.{Dimension, array_sizes}
 use Rattle.zarrs_chunk_axes.specs.EqualEdges.{AreEqualEdges}
 use Rattle.zarrs_chunk_plan.specs.Region.{CanBeMoved, moved}
 use Rattle.zarrs_chunk_plan.specs.Rechunking.{array_box}
-use Rattle.zarrs_chunk_tasks.specs.Cheapest.{FindsTasks}
 use Rattle.zarrs_chunk_tasks.specs.Counts.{greatest_of_128}
-use Rattle.zarrs_chunk_tasks.specs.Stages.{BothCostAtLeast, NoneOfBothFit}
+use Rattle.zarrs_chunk_tasks.specs.Stages.{BothCostAtLeast, IsStage, NoneOfBothFit}
 use Rattle.zarrs_chunk_tasks.specs.declared.between.Compared.{Compared}
 use Rattle.zarrs_chunk_tasks.specs.declared.between.Staged.{Staged}
 use Rattle.zarrs_chunk_tasks.specs.declared.between.TwoStages.{TwoStages}
@@ -19,7 +18,7 @@ use Rattle.zarrs_chunk_tasks.specs.declared.between.TwoStages.{TwoStages}
 abbrev pub IsOneOf : List (List NonZeroU64) → List NonZeroU64 → Type 0
 IsOneOf = AllZip Contains
 
--- The chunk shape of a number: along the first dimension the number tells the edge by its remainder, and so on with the quotient.
+-- The chunk shape of a number. Along the first dimension its remainder is the edge's place in the row, and its quotient is the number for the other dimensions.
 abbrev pub IsShapeAt : List (List NonZeroU64) → (number : ℕ) → List NonZeroU64 → Type 0
 IsShapeAt [] number [] = Unit {0}
 IsShapeAt (row ∷ rows) number (edge ∷ shape) = (slice_index_or row (number % length row) edge ≡ edge) × IsShapeAt rows (number / length row) shape
@@ -57,8 +56,8 @@ Keeps before (Some two) after =
 module _ (source target : List Dimension) (region : Box) (at : List ℕ) (most read_elements : ℕ) where
   -- the tasks of both stages by an intermediate array are chosen
   pub record AreBy (between : List Dimension) (two : TwoStages) : Type 0 where
-    pub first : FindsTasks source between region (array_box between).start most read_elements (Some two.first)
-    pub second : FindsTasks between target (array_box between) at most read_elements (Some two.second)
+    pub first : IsStage source between region (array_box between).start most read_elements two.first
+    pub second : IsStage between target (array_box between) at most read_elements two.second
 
   -- no tasks cost less than the bound, if there is one; otherwise none fit
   abbrev pub NoneIsBelow : (between : List Dimension) → Option ℕ → Type 0
@@ -71,8 +70,9 @@ module _ (source target : List Dimension) (region : Box) (at : List ℕ) (most r
     pub made : AreEqualEdges between region.shape (map non_zero_u64_get shape)
     pub finds : MatchOption found (NoneIsBelow between bound) (λ two. (two.chunks.items ≡ shape) × AreBy between two)
 
-  -- the best two stages are chosen, by chunks of some shape
-  pub record AreChosen (two : TwoStages) : Type 0 where
+  -- the best two stages are chosen, by chunks of one of some shapes
+  pub record AreChosen (rows : List (List NonZeroU64)) (two : TwoStages) : Type 0 where
+    pub one_of : IsOneOf rows two.chunks.items
     pub between : List Dimension
     pub made : AreEqualEdges between region.shape (map non_zero_u64_get two.chunks.items)
     pub are_by : AreBy between two
@@ -83,6 +83,12 @@ module _ (source target : List Dimension) (region : Box) (at : List ℕ) (most r
     pub made : AreEqualEdges between region.shape (map non_zero_u64_get shape)
     pub no_better : IsTrue compared.is_exact → NoneIsBelow between (best_cost compared.best)
     pub none_fit : compared.best ≡ None → NoneOfBothFit source target region at most between
+
+  -- two stages by chunks of any of some shapes are exact
+  abbrev pub AreExactBy : List (List NonZeroU64) → Type 0
+  AreExactBy rows =
+      (shape : List NonZeroU64) → IsOneOf rows shape → (between : List Dimension) → AreEqualEdges between region.shape (map non_zero_u64_get shape)
+      → (two : TwoStages) → AreBy between two → IsTrue (both_are_exact two)
 
 module _ {G H : Type 0} where
   -- the elements lie in both arrays, and there are some

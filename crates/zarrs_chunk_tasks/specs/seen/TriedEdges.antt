@@ -18,16 +18,18 @@ edges_in = map non_zero_u64_get
 abbrev pub rows_of_edges : List (Vec NonZeroU64 Global) → List (List ℕ)
 rows_of_edges = map (λ (row : Vec NonZeroU64 Global). edges_in row.items)
 
--- the edge is there, and those that were before, and there is at most one more
+-- the edge is there, and those that were before, and no others, and there is at most one more
 pub record HasPut (before : List ℕ) (edge : ℕ) (after : List ℕ) : Type 0 where
   pub kept : (x : ℕ) → Contains before x → Contains after x
   pub put : Contains after edge
+  pub only : (x : ℕ) → Contains after x → Contains before x ⊎ (x ≡ edge)
   pub few : length after ≤ length before + 1
 
--- the edges by one unit are there, and those that were before, and there are no more new ones than pieces of one unit
+-- The edges by one unit are there, and those that were before, and no others. There are no more new ones than pieces of one unit.
 pub record HasAllBy (size unit : ℕ) (before after : List ℕ) : Type 0 where
   pub kept : (x : ℕ) → Contains before x → Contains after x
   pub some : 0 < length after
+  pub only : (edge : ℕ) → Contains after edge → Contains before edge ⊎ IsTriedEdge size unit edge
   pub few : length after ≤ length before + rounded_up size unit
   pub all : rounded_up size unit ≤ most_pieces → (edge : ℕ) → IsTriedEdge size unit edge → Contains after edge
 
@@ -48,8 +50,13 @@ IsTriedBy units edge = IsTriedEdge units.size units.read edge ⊎ IsTriedEdge un
 -- the edges that are tried along one dimension
 pub record IsRow (units : Units) (row : List ℕ) : Type 0 where
   pub some : 0 < length row
+  pub only : (edge : ℕ) → Contains row edge → IsTriedBy units edge
   pub few : length row ≤ rounded_up units.size units.read + rounded_up units.size units.written
   pub all : IsFew units → (edge : ℕ) → IsTriedBy units edge → Contains row edge
+
+-- each edge of the one row is one of the other
+abbrev pub IsPartOf : (row part : List ℕ) → Type 0
+IsPartOf row part = (edge : ℕ) → Contains part edge → Contains row edge
 
 -- each dimension's size, and the edges of the longest chunks, cut to it
 abbrev pub units_of : (sizes read written : List ℕ) → List Units
@@ -60,8 +67,10 @@ units_of _ _ _ = []
 pub record AreUnits (source target : List Dimension) (region : Box) (at : List ℕ) (units : List Units) : Type 0 where
   pub read : List ℕ
   pub is_read : AreLongest source region read
+  pub read_long : length read ≡ length region.shape
   pub written : List ℕ
   pub is_written : AreLongest target (moved at region) written
+  pub written_long : length written ≡ length region.shape
   pub region_is_box : IsBox region
   pub moved_is_box : IsBox (moved at region)
   pub are : units ≡ units_of region.shape read written

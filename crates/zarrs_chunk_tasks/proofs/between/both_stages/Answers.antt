@@ -99,14 +99,22 @@ returns g c =
     let shape = ap (λ (b : Box). b.shape) array ∙ (c.in_ok-grid.ensures {u = tt}).sizes ∙ c.shape.ensures.value in
     let first = rw (c.in_ok-first.ensures {u = tt}) at c.cheapest_tasks-first.ensures.choice in
     let second = rw (c.in_ok-second.ensures {u = tt}) at c.cheapest_tasks-second.ensures.choice in
+    let first_few = rw (c.in_ok-first.ensures {u = tt}) at c.cheapest_tasks-first.ensures.exact in
+    let second_few = rw (c.in_ok-second.ensures {u = tt}) at c.cheapest_tasks-second.ensures.exact in
     record {
       between = (regular_of c.in_ok-grid.grid).dimensions;
       made = rw (c.shape.ensures.value, c.deref.ensures.value) at (c.in_ok-grid.ensures {u = tt}).made;
       finds = (
         refl,
         record {
-          first = rw (c.in-Some-3.is, c.start.ensures.value, array) at (first c.requires.can.some);
-          second = rw (c.in-Some-4.is, c.start-at.ensures.value, array) at (second (rw shape c.requires.can.some));
+          first = record {
+            chosen = rw (c.in-Some-3.is, c.start.ensures.value, array) at (first c.requires.can.some);
+            exact = rw (c.in-Some-3.is, c.start.ensures.value, array) at (first_few c.requires.can.some);
+          };
+          second = record {
+            chosen = rw (c.in-Some-4.is, c.start-at.ensures.value, array) at (second (rw shape c.requires.can.some));
+            exact = rw (c.in-Some-4.is, c.start-at.ensures.value, array) at (second_few (rw shape c.requires.can.some));
+          };
         },
       );
     }

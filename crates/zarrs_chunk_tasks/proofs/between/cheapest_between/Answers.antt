@@ -1,6 +1,6 @@
 use Rattle.std.proofs.Common.{◌∙◌, arith}
 use Rattle.zarrs_chunk_tasks.specs.seen.Choices.{rows_of}
-use Rattle.zarrs_chunk_tasks.proofs.TwoStages.{best_chosen, has_number, one_each, shapes_compared}
+use Rattle.zarrs_chunk_tasks.proofs.TwoStages.{best_chosen, has_number, is_one_of, one_each, shapes_compared, still_exact}
 use Rattle.zarrs_chunk_tasks.proofs.between.cheapest_between.Goals as goal
 
 pub both_stages-requires-clause-long : goal.both_stages-requires-clause-long
@@ -10,12 +10,18 @@ pub loop-number-preserved : goal.loop-number-preserved
 loop-number-preserved g c =
     let source = g.G.ChunkGridTraits.dimensions c.args.staged.now.source.now in
     let target = g.H.ChunkGridTraits.dimensions c.args.staged.now.target.now in
-    let finds = rw c.cost_of.ensures at (c.in_ok-found.ensures {u = tt}) in (
+    let rows = rows_of c.args.edges.now in
+    let shape = c.in_ok-chunks.chunks.items in
+    let finds = rw c.cost_of.ensures at (c.in_ok-found.ensures {u = tt}) in
+    let one_of = is_one_of rows c.loop-number.number shape c.requires.some (c.in_ok-chunks.ensures {u = tt}) in
+    let (best, all, exact) = c.loop-number.invariant in (
       best_chosen source target c.args.staged.now.region.now c.args.staged.now.moved.now.start c.args.staged.now.max_elements c.args.staged.now.read_elements
-          c.loop-number.compared c.with_found-compared.result c.in_ok-found.found c.in_ok-chunks.chunks.items c.with_found-compared.ensures finds c.loop-number.invariant.0,
+          c.loop-number.compared c.with_found-compared.result c.in_ok-found.found rows shape one_of c.with_found-compared.ensures finds best,
       shapes_compared source target c.args.staged.now.region.now c.args.staged.now.moved.now.start c.args.staged.now.max_elements c.args.staged.now.read_elements
-          c.loop-number.compared c.with_found-compared.result c.in_ok-found.found (rows_of c.args.edges.now) c.loop-number.number c.in_ok-chunks.chunks.items c.requires.some
-          (c.in_ok-chunks.ensures {u = tt}) c.with_found-compared.ensures finds c.loop-number.invariant.1,
+          c.loop-number.compared c.with_found-compared.result c.in_ok-found.found rows c.loop-number.number shape c.requires.some
+          (c.in_ok-chunks.ensures {u = tt}) c.with_found-compared.ensures finds all,
+      still_exact source target c.args.staged.now.region.now c.args.staged.now.moved.now.start c.args.staged.now.max_elements c.args.staged.now.read_elements
+          c.loop-number.compared c.with_found-compared.result c.in_ok-found.found rows shape one_of c.with_found-compared.ensures finds exact,
     )
 
 pub returns-clause-all : goal.returns-clause-all

@@ -1,5 +1,6 @@
 use Rattle.std.proofs.Common.{◌∙◌, arith}
-use Rattle.zarrs_chunk_tasks.proofs.TriedEdges.{all_tried, as_counted, as_many, few_along, few_rows, some_rows}
+use Rattle.zarrs_chunk_tasks.specs.seen.TriedEdges.{rows_of_edges}
+use Rattle.zarrs_chunk_tasks.proofs.TriedEdges.{all_tried, as_counted, as_many, few_along, few_rows, only_tried, shape_of_parts, some_rows}
 use Rattle.zarrs_chunk_tasks.proofs.edges.tried_edges.Goals as goal
 
 pub thinned-requires : goal.thinned-requires
@@ -15,6 +16,16 @@ returns-then-choices_of-gt-MOST_SHAPES-clause-long g c =
     (c.in_ok-thinned.ensures {u = tt}).long
     ∙ as_many source target c.args.region.now c.args.moved.now.start c.requires.some c.in_ok-units.units.items (c.in_ok-units.ensures {u = tt})
     c.in_ok-rows.rows.items is
+
+pub returns-then-choices_of-gt-MOST_SHAPES-clause-tried :
+    goal.returns-then-choices_of-gt-MOST_SHAPES-clause-tried
+returns-then-choices_of-gt-MOST_SHAPES-clause-tried g c = λ shape has.
+    let source = g.G.ChunkGridTraits.dimensions c.args.source.now in
+    let target = g.H.ChunkGridTraits.dimensions c.args.target.now in
+    let is = rw c.deref.ensures.value at (c.in_ok-rows.ensures {u = tt}) in
+    only_tried source target c.args.region.now c.args.moved.now.start c.requires.some c.in_ok-units.units.items (c.in_ok-units.ensures {u = tt})
+    c.in_ok-rows.rows.items is shape
+    (shape_of_parts (rows_of_edges c.in_ok-rows.rows.items) (rows_of_edges c.in_ok-thinned.field-0.items) shape (c.in_ok-thinned.ensures {u = tt}).parts has)
 
 pub returns-then-choices_of-gt-MOST_SHAPES-clause-are_all :
     goal.returns-then-choices_of-gt-MOST_SHAPES-clause-are_all
@@ -49,6 +60,14 @@ returns-clause-all g c = λ are_all.
     let few = rw c.deref-3.ensures.value at (c.are_few-are_all.ensures.0 are_all) in
     all_tried source target c.args.region.now c.args.moved.now.start c.requires.some c.in_ok-units.units.items (c.in_ok-units.ensures {u = tt})
     c.in_ok-rows.rows.items is few
+
+pub returns-clause-tried : goal.returns-clause-tried
+returns-clause-tried g c = λ shape has.
+    let source = g.G.ChunkGridTraits.dimensions c.args.source.now in
+    let target = g.H.ChunkGridTraits.dimensions c.args.target.now in
+    let is = rw c.deref.ensures.value at (c.in_ok-rows.ensures {u = tt}) in
+    only_tried source target c.args.region.now c.args.moved.now.start c.requires.some c.in_ok-units.units.items (c.in_ok-units.ensures {u = tt})
+    c.in_ok-rows.rows.items is shape has
 
 pub returns-clause-are_all : goal.returns-clause-are_all
 returns-clause-are_all g c = λ few.
