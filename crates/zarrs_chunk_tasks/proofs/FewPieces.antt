@@ -34,7 +34,7 @@ no_shorter size unit edge within some tried =
     let up = no_less unit many (omega (arith, some, is)) in
     omega (arith, within, is, up)
 
--- where a chunk of that edge begins in the dimension, there are as many pieces up to its end or more
+-- a chunk of a tried edge that begins in the dimension has a number below that of the units
 reached_by : (size unit edge last : ℕ) → unit ≤ size → 0 < edge → last * edge < size → IsTriedEdge size unit edge → last < rounded_up size unit
 reached_by size unit edge last within some begins tried =
     let longer = no_shorter size unit edge within some tried in

@@ -1,5 +1,5 @@
--- The edges that are tried for the chunks of an intermediate array. A region of the source's array goes to a box of the same shape in the target's by way of an
--- array of that shape, which is cut into chunks of one shape.
+-- The edges that are tried for the chunks of an intermediate array. A region of the source's array goes to a box of the same shape in the target's array. The
+-- intermediate array has this shape, too, and chunks of one shape.
 -- Source: this library's own.
 use Rattle.std.specs.Prelude.{◌≡◌, ℕ, ◌+◌, ◌-◌, ◌*◌, ◌/◌, ◌<◌, ◌≤◌, ◌⊎◌, List, [], ◌∷◌, fold, map, max, min}
 use Rattle.std.specs.List.{AllByRecursion, range_with_len}
@@ -35,7 +35,7 @@ pub record AreLongest (ds : List Dimension) (b : Box) (edges : List ℕ) : Type 
   pub is_cover : Covers ds b cover
   pub are_longest : edges ≡ longest_of_each ds cover.start cover.shape
 
--- each edge is tried by the longest chunk of the source, or by that of the target, cut to the size
+-- each edge is tried by the longest chunk of the source, or by the longest one of the target, cut to the size
 abbrev pub AreTriedEdges : (sizes read written edges : List ℕ) → Type 0
 AreTriedEdges [] [] [] [] = Unit {0}
 AreTriedEdges (n ∷ sizes) (r ∷ read) (w ∷ written) (edge ∷ edges) =

@@ -40,7 +40,7 @@ struct Units {
     size: u64,
     /// The edge of the longest chunk of the source, cut to the size,
     read: u64,
-    /// and that of the longest one of the target.
+    /// and the edge of the longest one of the target.
     written: u64,
 }
 
@@ -225,7 +225,7 @@ fn put_all(edges: &mut Vec<NonZeroU64>, size: u64, unit: u64) -> Result<(), Allo
     Ok(())
 }
 
-/// The next number of pieces that is tried, where so many make pieces of `multiple` units. It is the least one that makes shorter pieces, or at least twice as
+/// The next number of pieces that is tried, after one that makes pieces of `multiple` units. It is the least one that makes shorter pieces, or at least twice as
 /// many as before if the units are more than 2^16.
 fn next_pieces(units: u64, multiple: u64, pieces: u64) -> u64
     requires { 1 < multiple }
@@ -240,7 +240,7 @@ fn next_pieces(units: u64, multiple: u64, pieces: u64) -> u64
     }
 }
 
-/// The edge of so many units, cut to the size.
+/// The edge of `multiple` units, cut to the size.
 fn edge_of(size: u64, unit: u64, multiple: u64) -> NonZeroU64
     requires size { 0 < size }
     requires unit { 0 < unit }

@@ -8,11 +8,11 @@ use Rattle.zarrs_chunk_tasks.specs.Limits.{HasAtMost, HasPart}
 use Rattle.zarrs_chunk_tasks.specs.declared.least.LimitsAlong.{LimitsAlong}
 use Rattle.zarrs_chunk_tasks.specs.declared.least.Limits.{Limits}
 
--- each of `many` chunks from `first` on has so many elements, whole
+-- each of `many` chunks from `first` on has `edge` elements or more, whole
 abbrev pub AreNoShorter : (first many edge : ℕ) → Dimension → Type 0
 AreNoShorter first many edge d = (c : ℕ) → first ≤ c → c < first + many → d.start c + edge ≤ d.end c
 
--- each chunk that has some of a range has so many elements, whole
+-- each chunk that has some of a range has `edge` elements or more, whole
 abbrev pub HasAtLeast : (edge : ℕ) → Dimension → (start size : ℕ) → Type 0
 HasAtLeast edge d start size = (c i : ℕ) → Holds d c i → start ≤ i → i < start + size → d.start c + edge ≤ d.end c
 
@@ -46,12 +46,12 @@ pub record AreLimitsOf (all : List LimitsAlong) (limits : Limits) : Type 0 where
   pub longest : limits.longest < greatest_of_128 → of_all (λ along. along.longest) all ≤ limits.longest
   pub some : 0 < limits.longest
 
--- so many reads are no fewer than the limits allow, where the longest buffer has no more than `room` elements
+-- the reads are no fewer than the limits allow, if the longest buffer has no more than `room` elements
 pub record AreEnough (all : List LimitsAlong) (room reads : ℕ) : Type 0 where
   pub chunks : of_all (λ along. along.chunks) all ≤ reads
   pub by_room : of_all (λ along. along.size) all * of_all (λ along. along.larger) all ≤ reads * of_all (λ along. along.longest) all * room
 
--- what so many reads cost at least: each element that is copied is decoded, and each read decodes the elements of a chunk
+-- what reads cost at least: each element that is copied is decoded, and each read decodes the elements of a chunk
 abbrev pub cost_of_reads : List LimitsAlong → (read_elements reads : ℕ) → ℕ
 cost_of_reads all read_elements reads =
     reads * read_elements + max (of_all (λ along. along.size) all) (reads * of_all (λ along. along.shortest) all)

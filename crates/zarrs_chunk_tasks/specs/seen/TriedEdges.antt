@@ -54,7 +54,7 @@ pub record IsRow (units : Units) (row : List ℕ) : Type 0 where
   pub few : length row ≤ rounded_up units.size units.read + rounded_up units.size units.written
   pub all : IsFew units → (edge : ℕ) → IsTriedBy units edge → Contains row edge
 
--- each edge of the one row is one of the other
+-- the part has only edges that the row has
 abbrev pub IsPartOf : (row part : List ℕ) → Type 0
 IsPartOf row part = (edge : ℕ) → Contains part edge → Contains row edge
 
