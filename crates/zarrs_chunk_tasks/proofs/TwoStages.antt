@@ -144,7 +144,7 @@ module _ (source target : List Dimension) (region : Box) (at : List ℕ) (most w
   abbrev second_fits : ℕ → Type 0
   second_fits cost = CostAtLeast between target (array_box between) at most worth cost
 
-  both_at_least : (a b cost : ℕ) → first_fits a → second_fits b → cost ≤ a + b → BothCostAtLeast source target region at most between worth cost
+  pub both_at_least : (a b cost : ℕ) → first_fits a → second_fits b → cost ≤ a + b → BothCostAtLeast source target region at most between worth cost
   both_at_least a b cost first second less = λ one other tasks others fit.
       let (c, is_c, a_least) = first one tasks fit.0 in
       let (d, is_d, b_least) = second other others fit.1 in
@@ -162,10 +162,12 @@ module _ (source target : List Dimension) (region : Box) (at : List ℕ) (most w
   second_none none = λ one other tasks others fit. none other others fit.1
 
   -- where both stages cost a bound or more, none cost less
-  pub bound_reached : (a b sum : ℕ) (bound : Option ℕ) → first_fits a → second_fits b → sum ≤ a + b → ¬ IsBelow bound sum
+  pub bound_reached : (least : ℕ) (bound : Option ℕ) → BothCostAtLeast source target region at most between worth least → ¬ IsBelow bound least
       → NoneIsBelow source target region at most worth between bound
-  bound_reached a b sum None first second capped reached = absurd (reached tt)
-  bound_reached a b sum (Some cost) first second capped reached = both_at_least a b cost first second (omega (arith, capped, not_less sum cost reached))
+  bound_reached least None at_least reached = absurd (reached tt)
+  bound_reached least (Some cost) at_least reached = λ one other tasks others fit.
+      let (a, b, is_a, is_b, up_to) = at_least one other tasks others fit in
+      (a, b, is_a, is_b, omega (arith, up_to, not_less least cost reached))
     where
       not_less : (n m : ℕ) → ¬ (n < m) → m ≤ n
       not_less n m not = omega (arith, not)

@@ -7,7 +7,7 @@ ghost use Rattle.zarrs_chunk_axes.specs.EqualEdges.{AreEqualEdges};
 ghost use Rattle.zarrs_chunk_base.specs.Dimension.{array_sizes};
 ghost use Rattle.zarrs_chunk_base.specs.Greatest.{greatest};
 ghost use Rattle.zarrs_chunk_plan.specs.Counts.{product};
-ghost use Rattle.zarrs_chunk_tasks.specs.seen.Between.{AreChosen, AreExactBy, CanBeStaged, FindsBoth, IsCheaper, IsCompared, IsOneOf, IsShapeAt, Keeps, best_cost, both_are_exact, cost_of_both};
+ghost use Rattle.zarrs_chunk_tasks.specs.seen.Between.{AreChosen, AreExactBy, CanBeStaged, ComparesShape, FindsBoth, IsCheaper, IsCompared, IsLeast, IsOneOf, IsShapeAt, Keeps, best_cost, both_are_exact, cost_of_both};
 ghost use Rattle.zarrs_chunk_tasks.specs.seen.Choices.{rows_of};
 ghost use Rattle.zarrs_chunks.specs.seen.Grids.{regular_of};
 
@@ -97,16 +97,71 @@ pub(crate) fn cheapest_between<G: ChunkGridTraits, H: ChunkGridTraits>(
         (H.dimensions staged.now.target.now) staged.now.region.now staged.now.moved.now.start
         staged.now.max_elements staged.now.read_elements compared shape) }
 {
-    let mut compared = Compared {
+    let compared = Compared {
         best: None,
         is_exact: true,
     };
-    for number in 0..choices_of(edges) {
-        let chunks = shape_at(alloc, edges, number)?;
-        let found = both_stages(alloc, staged, chunks, cost_of(&compared.best))?;
-        compared = with_found(compared, found);
+    let shapes = choices_of(edges);
+    let likely = likely_shape(alloc, staged, edges, shapes)?;
+    let mut compared = with_shape(alloc, staged, edges, likely, compared)?;
+    for number in 0..shapes {
+        compared = with_shape(alloc, staged, edges, number, compared)?;
     }
     Ok(compared)
+}
+
+/// The number of the chunk shape by which both stages have the least bound of their cost. If it is compared first, most of the others are left out.
+///
+/// # Errors
+/// Out of memory.
+fn likely_shape<G: ChunkGridTraits, H: ChunkGridTraits>(
+    alloc: Global,
+    staged: &Staged<G, H>,
+    edges: &[Vec<NonZeroU64>],
+    shapes: u64,
+) -> Result<u64, AllocError>
+    requires can { CanBeStaged G.dimensions H.dimensions staged.now }
+    requires long { length edges.now ≡ length staged.now.region.now.shape }
+    requires some { AllByRecursion (λ (row : List NonZeroU64). 0 < length row)
+        (rows_of edges.now) }
+    ensures { IfOk result (λ number. number ≤ shapes) }
+{
+    let mut likely = 0u64;
+    let mut least = None;
+    for number in 0..shapes {
+        let chunks = shape_at(alloc, edges, number)?;
+        if let Some(cost) = least_of_both(alloc, staged, &chunks)? {
+            if is_below(least, cost) {
+                least = Some(cost);
+                likely = number;
+            }
+        }
+    }
+    Ok(likely)
+}
+
+/// Compares the stages by the chunk shape of a number with the best ones before them.
+///
+/// # Errors
+/// Out of memory.
+fn with_shape<G: ChunkGridTraits, H: ChunkGridTraits>(
+    alloc: Global,
+    staged: &Staged<G, H>,
+    edges: &[Vec<NonZeroU64>],
+    number: u64,
+    compared: Compared,
+) -> Result<Compared, AllocError>
+    requires can { CanBeStaged G.dimensions H.dimensions staged.now }
+    requires long { length edges.now ≡ length staged.now.region.now.shape }
+    requires some { AllByRecursion (λ (row : List NonZeroU64). 0 < length row)
+        (rows_of edges.now) }
+    ensures { IfOk result (ComparesShape (G.dimensions staged.now.source.now)
+        (H.dimensions staged.now.target.now) staged.now.region.now staged.now.moved.now.start
+        staged.now.max_elements staged.now.read_elements (rows_of edges.now) number compared) }
+{
+    let chunks = shape_at(alloc, edges, number)?;
+    let found = both_stages(alloc, staged, chunks, cost_of(&compared.best))?;
+    Ok(with_found(compared, found))
 }
 
 /// The chunk shape of a number.
@@ -182,7 +237,56 @@ fn both_stages<G: ChunkGridTraits, H: ChunkGridTraits>(
         (H.dimensions staged.now.target.now) staged.now.region.now staged.now.moved.now.start
         staged.now.max_elements staged.now.read_elements chunks.items bound) }
 {
+    let Some(least) = least_of_both(alloc, staged, &chunks)? else {
+        return Ok(None);
+    };
+    if !is_below(bound, least) {
+        return Ok(None);
+    }
     let grid = grid_of(alloc, staged.region.shape(), &chunks)?;
+    let array = whole_array(alloc, &grid)?;
+    let most = staged.max_elements;
+    let worth = staged.read_elements;
+    let first = cheapest_tasks(
+        alloc,
+        staged.source,
+        &grid,
+        staged.region,
+        array.start(),
+        most,
+        worth,
+    );
+    let Some(first) = expect_tasks(first)? else {
+        return Ok(None);
+    };
+    let at = staged.moved.start();
+    let second = cheapest_tasks(alloc, &grid, staged.target, &array, at, most, worth);
+    let Some(second) = expect_tasks(second)? else {
+        return Ok(None);
+    };
+    Ok(Some(TwoStages {
+        chunks,
+        first,
+        second,
+    }))
+}
+
+/// What both stages cost at least, by an intermediate array in chunks of this shape, up to the greatest number. `None` if no tasks fit.
+///
+/// # Errors
+/// Out of memory.
+fn least_of_both<G: ChunkGridTraits, H: ChunkGridTraits>(
+    alloc: Global,
+    staged: &Staged<G, H>,
+    chunks: &[NonZeroU64],
+) -> Result<Option<u128>, AllocError>
+    requires can { CanBeStaged G.dimensions H.dimensions staged.now }
+    requires long { length chunks.now ≡ length staged.now.region.now.shape }
+    ensures { IfOk result (IsLeast (G.dimensions staged.now.source.now)
+        (H.dimensions staged.now.target.now) staged.now.region.now staged.now.moved.now.start
+        staged.now.max_elements staged.now.read_elements chunks.now) }
+{
+    let grid = grid_of(alloc, staged.region.shape(), chunks)?;
     let array = whole_array(alloc, &grid)?;
     let most = staged.max_elements;
     let worth = staged.read_elements;
@@ -210,31 +314,7 @@ fn both_stages<G: ChunkGridTraits, H: ChunkGridTraits>(
     else {
         return Ok(None);
     };
-    if !is_below(bound, write.saturating_add(read)) {
-        return Ok(None);
-    }
-    let first = cheapest_tasks(
-        alloc,
-        staged.source,
-        &grid,
-        staged.region,
-        array.start(),
-        most,
-        worth,
-    );
-    let Some(first) = expect_tasks(first)? else {
-        return Ok(None);
-    };
-    let at = staged.moved.start();
-    let second = cheapest_tasks(alloc, &grid, staged.target, &array, at, most, worth);
-    let Some(second) = expect_tasks(second)? else {
-        return Ok(None);
-    };
-    Ok(Some(TwoStages {
-        chunks,
-        first,
-        second,
-    }))
+    Ok(Some(write.saturating_add(read)))
 }
 
 /// The regular grid of an array in chunks of one shape.

@@ -64,6 +64,12 @@ module _ (source target : List Dimension) (region : Box) (at : List ℕ) (most r
   NoneIsBelow between None = NoneOfBothFit source target region at most between
   NoneIsBelow between (Some cost) = BothCostAtLeast source target region at most between read_elements cost
 
+  -- what both stages by chunks of one shape cost at least; none, if none fit
+  pub record IsLeast (shape : List NonZeroU64) (least : Option ℕ) : Type 0 where
+    pub between : List Dimension
+    pub made : AreEqualEdges between region.shape (map non_zero_u64_get shape)
+    pub is_least : NoneIsBelow between least
+
   -- what is found by chunks of one shape: both stages, or none, if they cost no less than the bound
   pub record FindsBoth (shape : List NonZeroU64) (bound : Option ℕ) (found : Option TwoStages) : Type 0 where
     pub between : List Dimension
@@ -83,6 +89,14 @@ module _ (source target : List Dimension) (region : Box) (at : List ℕ) (most r
     pub made : AreEqualEdges between region.shape (map non_zero_u64_get shape)
     pub no_better : IsTrue compared.is_exact → NoneIsBelow between (best_cost compared.best)
     pub none_fit : compared.best ≡ None → NoneOfBothFit source target region at most between
+
+  -- the stages by the chunk shape of a number are compared with the best ones before them
+  pub record ComparesShape (rows : List (List NonZeroU64)) (number : ℕ) (before after : Compared) : Type 0 where
+    pub shape : List NonZeroU64
+    pub is_shape : IsShapeAt rows number shape
+    pub found : Option TwoStages
+    pub finds : FindsBoth shape (best_cost before.best) found
+    pub keeps : Keeps before found after
 
   -- two stages by chunks of any of some shapes are exact
   abbrev pub AreExactBy : List (List NonZeroU64) → Type 0

@@ -1,93 +1,52 @@
-use Rattle.std.proofs.Common.{◌∙◌, arith, ap, sym, refl}
+use Rattle.std.proofs.Common.{◌∙◌, ap, sym, refl}
 use Rattle.std.proofs.lemmas.Bool.{true≢false}
 use Rattle.zarrs_chunk_base.specs.ArraySubset.{Box}
-use Rattle.zarrs_chunk_tasks.proofs.TwoStages.{bound_reached, can_read, can_write, first_none, none_below, none_fits, second_none}
+use Rattle.zarrs_chunk_tasks.proofs.TwoStages.{bound_reached, first_none, none_below, none_fits, second_none}
 use Rattle.zarrs_chunks.specs.seen.Grids.{regular_of}
 use Rattle.zarrs_chunk_tasks.proofs.between.both_stages.Goals as goal
 
-pub least_cost-requires-clause-can : goal.least_cost-requires-clause-can
-least_cost-requires-clause-can g c =
-    let grid = c.in_ok-grid.ensures {u = tt} in
-    rw (c.in_ok-array.ensures {u = tt}).elements
-    (can_write (g.G.ChunkGridTraits.dimensions c.args.staged.now.source.now) (g.H.ChunkGridTraits.dimensions c.args.staged.now.target.now) c.args.staged.now.region.now
-    c.args.staged.now.moved.now.start c.args.staged.now.max_elements c.args.staged.now.read_elements (regular_of c.in_ok-grid.grid).dimensions
-    (grid.sizes ∙ c.shape.ensures.value) c.requires.can.can)
-
-pub least_cost-requires-clause-same : goal.least_cost-requires-clause-same
-least_cost-requires-clause-same g c = ap (λ (b : Box). b.shape) (c.in_ok-array.ensures {u = tt}).elements ∙ (c.in_ok-grid.ensures {u = tt}).sizes ∙ c.shape.ensures.value
-
 pub returns-in_default : goal.returns-in_default
 returns-in_default g c =
-    let none = rw (c.in_default.is, (c.in_ok-array.ensures {u = tt}).elements) at (c.in_ok-write.ensures {u = tt}).none in
+    let least = rw (c.deref.ensures.value, c.in_default.is) at (c.in_ok-least.ensures {u = tt}) in
     record {
-      between = (regular_of c.in_ok-grid.grid).dimensions;
-      made = rw (c.shape.ensures.value, c.deref.ensures.value) at (c.in_ok-grid.ensures {u = tt}).made;
-      finds = none_below (g.G.ChunkGridTraits.dimensions c.args.staged.now.source.now) (g.H.ChunkGridTraits.dimensions c.args.staged.now.target.now) c.args.staged.now.region.now
-          c.args.staged.now.moved.now.start c.args.staged.now.max_elements c.args.staged.now.read_elements (regular_of c.in_ok-grid.grid).dimensions (first_none (g.G.ChunkGridTraits.dimensions c.args.staged.now.source.now) (g.H.ChunkGridTraits.dimensions c.args.staged.now.target.now) c.args.staged.now.region.now
-          c.args.staged.now.moved.now.start c.args.staged.now.max_elements c.args.staged.now.read_elements (regular_of c.in_ok-grid.grid).dimensions none) c.args.bound;
-    }
-
-pub least_cost-requires-2-clause-can : goal.least_cost-requires-2-clause-can
-least_cost-requires-2-clause-can g c =
-    let grid = c.in_ok-grid.ensures {u = tt} in
-    rw (c.in_ok-array.ensures {u = tt}).elements
-    (can_read (g.G.ChunkGridTraits.dimensions c.args.staged.now.source.now) (g.H.ChunkGridTraits.dimensions c.args.staged.now.target.now) c.args.staged.now.region.now
-    c.args.staged.now.moved.now.start c.args.staged.now.max_elements c.args.staged.now.read_elements (regular_of c.in_ok-grid.grid).dimensions
-    (grid.sizes ∙ c.shape.ensures.value) c.requires.can.can)
-
-pub least_cost-requires-2-clause-same : goal.least_cost-requires-2-clause-same
-least_cost-requires-2-clause-same g c =
-    ap (λ (b : Box). b.shape) c.requires.can.same
-    ∙ sym (ap (λ (b : Box). b.shape) (c.in_ok-array.ensures {u = tt}).elements ∙ (c.in_ok-grid.ensures {u = tt}).sizes ∙ c.shape.ensures.value)
-
-pub least_cost-requires-2-clause-some : goal.least_cost-requires-2-clause-some
-least_cost-requires-2-clause-some g c =
-    rw (ap (λ (b : Box). b.shape) (c.in_ok-array.ensures {u = tt}).elements ∙ (c.in_ok-grid.ensures {u = tt}).sizes ∙ c.shape.ensures.value) c.requires.can.some
-
-pub returns-in_default-2 : goal.returns-in_default-2
-returns-in_default-2 g c =
-    let none = rw (c.in_default-2.is, (c.in_ok-array.ensures {u = tt}).elements) at (c.in_ok-read.ensures {u = tt}).none in
-    record {
-      between = (regular_of c.in_ok-grid.grid).dimensions;
-      made = rw (c.shape.ensures.value, c.deref.ensures.value) at (c.in_ok-grid.ensures {u = tt}).made;
-      finds = none_below (g.G.ChunkGridTraits.dimensions c.args.staged.now.source.now) (g.H.ChunkGridTraits.dimensions c.args.staged.now.target.now) c.args.staged.now.region.now
-          c.args.staged.now.moved.now.start c.args.staged.now.max_elements c.args.staged.now.read_elements (regular_of c.in_ok-grid.grid).dimensions (second_none (g.G.ChunkGridTraits.dimensions c.args.staged.now.source.now) (g.H.ChunkGridTraits.dimensions c.args.staged.now.target.now) c.args.staged.now.region.now
-          c.args.staged.now.moved.now.start c.args.staged.now.max_elements c.args.staged.now.read_elements (regular_of c.in_ok-grid.grid).dimensions none) c.args.bound;
+      between = least.between;
+      made = least.made;
+      finds = none_below (g.G.ChunkGridTraits.dimensions c.args.staged.now.source.now) (g.H.ChunkGridTraits.dimensions c.args.staged.now.target.now)
+          c.args.staged.now.region.now c.args.staged.now.moved.now.start c.args.staged.now.max_elements c.args.staged.now.read_elements least.between least.is_least c.args.bound;
     }
 
 pub returns-then-not-is_below : goal.returns-then-not-is_below
 returns-then-not-is_below g c =
-    let write = rw (c.in-Some.is, (c.in_ok-array.ensures {u = tt}).elements) at (c.in_ok-write.ensures {u = tt}).some in
-    let read = rw (c.in-Some-2.is, (c.in_ok-array.ensures {u = tt}).elements) at (c.in_ok-read.ensures {u = tt}).some in
+    let least = rw (c.deref.ensures.value, c.in-Some.is) at (c.in_ok-least.ensures {u = tt}) in
     record {
-      between = (regular_of c.in_ok-grid.grid).dimensions;
-      made = rw (c.shape.ensures.value, c.deref.ensures.value) at (c.in_ok-grid.ensures {u = tt}).made;
+      between = least.between;
+      made = least.made;
       finds =
-          bound_reached (g.G.ChunkGridTraits.dimensions c.args.staged.now.source.now) (g.H.ChunkGridTraits.dimensions c.args.staged.now.target.now) c.args.staged.now.region.now
-          c.args.staged.now.moved.now.start c.args.staged.now.max_elements c.args.staged.now.read_elements (regular_of c.in_ok-grid.grid).dimensions c.in-Some.write c.in-Some-2.read c.saturating_add.result c.args.bound write read
-          (omega (arith, c.saturating_add.ensures)) (λ below. true≢false (sym (c.is_below.ensures.1 below) ∙ c.if-not-is_below.true));
+          bound_reached (g.G.ChunkGridTraits.dimensions c.args.staged.now.source.now) (g.H.ChunkGridTraits.dimensions c.args.staged.now.target.now)
+          c.args.staged.now.region.now c.args.staged.now.moved.now.start c.args.staged.now.max_elements c.args.staged.now.read_elements least.between c.in-Some.least c.args.bound least.is_least
+          (λ below. true≢false (sym (c.is_below.ensures.1 below) ∙ c.if-not-is_below.true));
     }
 
-pub returns-in_default-3 : goal.returns-in_default-3
-returns-in_default-3 g c =
+pub returns-in_default-2 : goal.returns-in_default-2
+returns-in_default-2 g c =
     let array = (c.in_ok-array.ensures {u = tt}).elements in
     let found = rw (c.in_ok-first.ensures {u = tt}) at c.cheapest_tasks-first.ensures.choice in
-    let none = rw (c.in_default-3.is, c.start.ensures.value, array) at (found c.requires.can.some) in
+    let none = rw (c.in_default-2.is, c.start.ensures.value, array) at (found c.requires.can.some) in
     record {
       between = (regular_of c.in_ok-grid.grid).dimensions;
-      made = rw (c.shape.ensures.value, c.deref.ensures.value) at (c.in_ok-grid.ensures {u = tt}).made;
+      made = rw (c.shape.ensures.value, c.deref-2.ensures.value) at (c.in_ok-grid.ensures {u = tt}).made;
       finds = none_below (g.G.ChunkGridTraits.dimensions c.args.staged.now.source.now) (g.H.ChunkGridTraits.dimensions c.args.staged.now.target.now) c.args.staged.now.region.now
           c.args.staged.now.moved.now.start c.args.staged.now.max_elements c.args.staged.now.read_elements (regular_of c.in_ok-grid.grid).dimensions (first_none (g.G.ChunkGridTraits.dimensions c.args.staged.now.source.now) (g.H.ChunkGridTraits.dimensions c.args.staged.now.target.now) c.args.staged.now.region.now
           c.args.staged.now.moved.now.start c.args.staged.now.max_elements c.args.staged.now.read_elements (regular_of c.in_ok-grid.grid).dimensions (none_fits _ _ _ _ _ c.args.staged.now.read_elements none)) c.args.bound;
     }
 
-pub returns-in_default-4 : goal.returns-in_default-4
-returns-in_default-4 g c =
+pub returns-in_default-3 : goal.returns-in_default-3
+returns-in_default-3 g c =
     let found = rw (c.in_ok-second.ensures {u = tt}) at c.cheapest_tasks-second.ensures.choice in
-    let none = rw (c.in_default-4.is, c.start-at.ensures.value, (c.in_ok-array.ensures {u = tt}).elements) at (found (rw (ap (λ (b : Box). b.shape) (c.in_ok-array.ensures {u = tt}).elements ∙ (c.in_ok-grid.ensures {u = tt}).sizes ∙ c.shape.ensures.value) c.requires.can.some)) in
+    let none = rw (c.in_default-3.is, c.start-at.ensures.value, (c.in_ok-array.ensures {u = tt}).elements) at (found (rw (ap (λ (b : Box). b.shape) (c.in_ok-array.ensures {u = tt}).elements ∙ (c.in_ok-grid.ensures {u = tt}).sizes ∙ c.shape.ensures.value) c.requires.can.some)) in
     record {
       between = (regular_of c.in_ok-grid.grid).dimensions;
-      made = rw (c.shape.ensures.value, c.deref.ensures.value) at (c.in_ok-grid.ensures {u = tt}).made;
+      made = rw (c.shape.ensures.value, c.deref-2.ensures.value) at (c.in_ok-grid.ensures {u = tt}).made;
       finds = none_below (g.G.ChunkGridTraits.dimensions c.args.staged.now.source.now) (g.H.ChunkGridTraits.dimensions c.args.staged.now.target.now) c.args.staged.now.region.now
           c.args.staged.now.moved.now.start c.args.staged.now.max_elements c.args.staged.now.read_elements (regular_of c.in_ok-grid.grid).dimensions (second_none (g.G.ChunkGridTraits.dimensions c.args.staged.now.source.now) (g.H.ChunkGridTraits.dimensions c.args.staged.now.target.now) c.args.staged.now.region.now
           c.args.staged.now.moved.now.start c.args.staged.now.max_elements c.args.staged.now.read_elements (regular_of c.in_ok-grid.grid).dimensions (none_fits _ _ _ _ _ c.args.staged.now.read_elements none)) c.args.bound;
@@ -103,17 +62,17 @@ returns g c =
     let second_few = rw (c.in_ok-second.ensures {u = tt}) at c.cheapest_tasks-second.ensures.exact in
     record {
       between = (regular_of c.in_ok-grid.grid).dimensions;
-      made = rw (c.shape.ensures.value, c.deref.ensures.value) at (c.in_ok-grid.ensures {u = tt}).made;
+      made = rw (c.shape.ensures.value, c.deref-2.ensures.value) at (c.in_ok-grid.ensures {u = tt}).made;
       finds = (
         refl,
         record {
           first = record {
-            chosen = rw (c.in-Some-3.is, c.start.ensures.value, array) at (first c.requires.can.some);
-            exact = rw (c.in-Some-3.is, c.start.ensures.value, array) at (first_few c.requires.can.some);
+            chosen = rw (c.in-Some-2.is, c.start.ensures.value, array) at (first c.requires.can.some);
+            exact = rw (c.in-Some-2.is, c.start.ensures.value, array) at (first_few c.requires.can.some);
           };
           second = record {
-            chosen = rw (c.in-Some-4.is, c.start-at.ensures.value, array) at (second (rw shape c.requires.can.some));
-            exact = rw (c.in-Some-4.is, c.start-at.ensures.value, array) at (second_few (rw shape c.requires.can.some));
+            chosen = rw (c.in-Some-3.is, c.start-at.ensures.value, array) at (second (rw shape c.requires.can.some));
+            exact = rw (c.in-Some-3.is, c.start-at.ensures.value, array) at (second_few (rw shape c.requires.can.some));
           };
         },
       );
