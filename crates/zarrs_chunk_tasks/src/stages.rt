@@ -41,8 +41,8 @@ pub struct CheapestStages {
 ///
 /// An empty region is copied in one stage, which costs nothing.
 ///
-/// It takes the time of [`cheapest_tasks`] for each shape that may cost less than the best one before it. The bound is what the reads of both stages cost at
-/// least in this memory.
+/// It takes some look-ups for each shape, which tell what both stages cost at least in this memory. For each shape that may cost less than the best one before it,
+/// it takes the time of [`cheapest_tasks`] twice. The shape that costs the least at least comes first.
 ///
 /// # Errors
 /// As of [`moved_box`]. Or out of memory.
