@@ -41,8 +41,8 @@ pub struct CheapestStages {
 ///
 /// An empty region is copied in one stage, which costs nothing.
 ///
-/// It takes some look-ups for each shape, which tell what both stages cost at least in this memory. For each shape that may cost less than the best one before it,
-/// it takes the time of [`cheapest_tasks`] twice. The shape that costs the least at least comes first.
+/// It takes some look-ups for each shape, to find what both stages cost at least in this memory. The shape of the least such bound comes first. For each shape that
+/// may cost less than the best one before it, it takes the time of [`cheapest_tasks`] twice.
 ///
 /// # Errors
 /// As of [`moved_box`]. Or out of memory.
