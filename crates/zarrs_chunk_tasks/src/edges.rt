@@ -225,8 +225,8 @@ fn put_all(edges: &mut Vec<NonZeroU64>, size: u64, unit: u64) -> Result<(), Allo
     Ok(())
 }
 
-/// The next number of pieces that is tried, after one that makes pieces of `multiple` units. It is the least one that makes shorter pieces, or at least twice as
-/// many as before if the units are more than 2^16.
+/// The next number of pieces that is tried, after one that makes pieces of `multiple` units. It is the least one that makes shorter pieces, or at least twice
+/// the number before if the units are more than 2^16.
 fn next_pieces(units: u64, multiple: u64, pieces: u64) -> u64
     requires { 1 < multiple }
     ensures shorter { units ≤ (multiple - 1) * result }

@@ -54,8 +54,7 @@ struct Limits {
 /// see [`tasks_read_no_fewer`](crate::laws::tasks_read_no_fewer). The reads decode each element that is copied. And each of them decodes a whole chunk, which has no
 /// fewer elements than the product of the shortest edges.
 ///
-/// A dimension that isn't regular takes, by itself, three look-ups for each chunk of the source that has some of the region, and one for each such chunk of the
-/// target.
+/// A dimension that isn't regular takes three look-ups for each chunk of the source that has some of the region. It takes one for each such chunk of the target.
 ///
 /// # Errors
 /// Out of memory.

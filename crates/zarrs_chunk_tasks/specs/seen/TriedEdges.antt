@@ -63,7 +63,7 @@ abbrev pub units_of : (sizes read written : List ℕ) → List Units
 units_of (n ∷ sizes) (r ∷ read) (w ∷ written) = record { size = n; read = min r n; written = min w n } ∷ units_of sizes read written
 units_of _ _ _ = []
 
--- these are those of a copy
+-- the units are the ones of a copy
 pub record AreUnits (source target : List Dimension) (region : Box) (at : List ℕ) (units : List Units) : Type 0 where
   pub read : List ℕ
   pub is_read : AreLongest source region read
