@@ -1,5 +1,5 @@
-"""Plans of reads, rechunkings, copies of regions and resizes, element by element: each element is asked for its chunk and
-its place there. Reads, copies of regions and resizes of arrays that have too many are found by boxes, too.
+"""Plans of reads, rechunkings, copies of regions, tasks and resizes, element by element: each element is asked for its chunk and
+its place there. Reads, copies of regions, tasks and resizes of arrays that have too many are found by boxes, too.
 
     python3 tools/chunk_plans.py [SEED]
 
@@ -92,12 +92,8 @@ def read(grid, encoding, start, shape, clip=False):
 def read_by_boxes(grid, encoding, start, shape):
     """The plan that reads a box of elements of the array, by what each chunk and the box have in common: for arrays of any
     size."""
-
-    def held(chunk):
-        return [min(d.end(c), d.size) - d.start(c) for d, c in zip(grid.dimensions, chunk)]
-
     return numbered([
-        {**part, "shape": grid.chunk_shape(part["chunk"]), "whole": part["in_chunk"][1] == held(part["chunk"])}
+        {**part, "shape": grid.chunk_shape(part["chunk"]), "whole": part["in_chunk"][1] == held_by(grid, part["chunk"])}
         for part in grid.parts(start, shape, encoding)
     ])  # fmt: skip
 
@@ -162,6 +158,51 @@ def rechunk_by_source(source, target):
     return numbered(lines)
 
 
+def tasks(source, target, box, at, each, by_source=False):
+    """The plan that copies a box of one array to another array by tasks. A task takes what neighbouring chunks of the target hold of
+    the elements, `each` along a dimension, or of the source. It fills its buffer from the source, and writes it to the target."""
+    (grid, encoding), (target_grid, target_encoding) = source, target
+    groups = collections.defaultdict(list)
+    for steps in elements(box[1]):
+        homes = home(grid, sums(box[0], steps)), home(target_grid, sums(at, steps))
+        grouped = homes[0 if by_source else 1][0]
+        groups[tuple(map(operator.floordiv, grouped, each))].append((steps, *homes))
+    held = collections.Counter(home(target_grid, index)[0] for index in elements(target_grid.shape))
+    lines = []
+    for _, moved in sorted(groups.items()):
+        first, buffer = box_of([steps for steps, _, _ in moved])
+        places = [tuple(map(operator.sub, steps, first)) for steps, _, _ in moved]
+        read, written = (
+            boxes((chunk, in_chunk, place) for (chunk, in_chunk), place in zip(homes, places)) for homes in [*zip(*moved)][1:]
+        )  # fmt: skip
+        lines.append({
+            "buffer": buffer, "from": pieces(grid, encoding, read),
+            "to": [{**piece, "whole": math.prod(piece["in_chunk"][1]) == held[tuple(piece["chunk"])]}
+                   for piece in pieces(target_grid, target_encoding, written)],
+        })  # fmt: skip
+    return numbered(lines)
+
+
+def pieces(grid, encoding, parts):
+    """What chunks and the buffer of a task have in common, as a line has it."""
+    shape_of = shapes(grid, [chunk for chunk, *_ in parts])
+    return [
+        {"chunk": list(chunk), "in_buffer": in_buffer, "in_chunk": in_chunk, "key": encoding.key(chunk), "shape": shape_of[chunk]}
+        for chunk, in_chunk, in_buffer in parts
+    ]  # fmt: skip
+
+
+def counts_of_tasks(lines, each, intermediate=None):
+    """The counts of all tasks of a stage."""
+    read, written = ([piece for line in lines for piece in line[end]] for end in ("from", "to"))
+    buffers = [math.prod(line["buffer"]) for line in lines]
+    return {
+        "chunks_read": len(read), "chunks_written": len(written), "elements_decoded": sum(math.prod(piece["shape"]) for piece in read),
+        "elements_moved": sum(buffers), "intermediate": intermediate, "largest_task": max(buffers, default=0), "task_chunks": each,
+        "tasks": len(lines),
+    }  # fmt: skip
+
+
 def beside(lines, target, keys):
     """What is left of the lines of a plan where the target, which is a grid with its encoding, has these keys in its store;
     and the keys that are of no chunk that holds elements of its array."""
@@ -184,11 +225,40 @@ def region_by_boxes(source, target, box, at):
              "in_target": [sums(to["in_chunk"][0], part["in_subset"][0]), part["in_subset"][1]]}
             for part in grid.parts(sums(box[0], steps), size, encoding)
         ]  # fmt: skip
-        held = [min(d.end(c), d.size) - d.start(c) for d, c in zip(target_grid.dimensions, chunk)]
         yield {
             "from": sources, "number": number if number <= GREATEST else None, "of": of if of <= GREATEST else None,
-            "to": {"chunk": chunk, "key": to["key"], "shape": target_grid.chunk_shape(chunk)}, "whole": size == held,
+            "to": {"chunk": chunk, "key": to["key"], "shape": target_grid.chunk_shape(chunk)}, "whole": size == held_by(target_grid, chunk),
         }  # fmt: skip
+
+
+def tasks_by_boxes(source, target, box, at, each, by_source=False):
+    """The lines of tasks, one after another, by what each group of chunks and the region have in common: for arrays of any size."""
+    (grid, encoding), (target_grid, target_encoding) = source, target
+    grouped, begin = (grid, box[0]) if by_source else (target_grid, at)
+    first, count = grouped.chunks_in_array_subset(begin, box[1])
+    firsts = [f // k for f, k in zip(first, each)]
+    counts = [n and (f + n - 1) // k + 1 - f // k for f, n, k in zip(first, count, each)]
+    of = math.prod(counts)
+    for number, group in enumerate(numbers_in(firsts, counts)):
+        along = [*zip(grouped.dimensions, group, each, begin, box[1])]
+        starts = [max(d.start(g * k) - b, 0) for d, g, k, b, _ in along]
+        buffer = [min(d.start((g + 1) * k) - b, n) - start for start, (d, g, k, b, n) in zip(starts, along)]
+        yield {
+            "buffer": buffer, "from": [as_piece(part, grid) for part in grid.parts(sums(box[0], starts), buffer, encoding)],
+            "number": number if number <= GREATEST else None, "of": of if of <= GREATEST else None,
+            "to": [{**as_piece(part, target_grid), "whole": part["in_chunk"][1] == held_by(target_grid, part["chunk"])}
+                   for part in target_grid.parts(sums(at, starts), buffer, target_encoding)],
+        }  # fmt: skip
+
+
+def as_piece(part, grid):
+    """A part of the plan of a buffer's box, as a line of a task has it."""
+    return {**{name: part[name] for name in ("chunk", "in_chunk", "key")}, "in_buffer": part["in_subset"], "shape": grid.chunk_shape(part["chunk"])}
+
+
+def held_by(grid, chunk):
+    """How many elements of the array a chunk holds along each dimension."""
+    return [min(d.end(c), d.size) - d.start(c) for d, c in zip(grid.dimensions, chunk)]
 
 
 def resize(before, after, encoding, keep):

@@ -31,6 +31,13 @@ def equal(size, resized, count, target_count):
     return Along(size, max(size // count, 1), max(size // target_count, 1), resized)
 
 
+def few(random, _room):
+    """One or two dimensions of up to a hundred elements, with chunks of one shape."""
+    for _ in range(random.choice([1, 2])):
+        size = random.randint(1, 100)
+        yield equal(size, random.randint(1, 100), random.randint(1, 20), random.randint(1, 20))
+
+
 def usual(random, _room):
     """A few dimensions of up to a thousand elements, with chunks of one shape."""
     for _ in range(random.choice([1, 2, 3, 4, 6, 12, 20])):
@@ -146,6 +153,10 @@ class Array:
         of = self.random.choice([1, 2, 7, 1000, 2**32, GREATEST])
         return [self.random.choice([0, of // 2, of - 1]), of]
 
+    def task_chunks(self):
+        """How many neighbouring chunks a task takes along each dimension."""
+        return [min(power(self.random, self.random.choice([0, 2, 64])), GREATEST) for _ in self.shape]
+
     def bound(self):
         """A bound on the elements that a worker holds, near the sizes of the greatest chunks of both arrays."""
         chunks = [
@@ -174,8 +185,17 @@ def rechunking(array, **members):
     return {"target": array.target.members, **members}
 
 
+def by_tasks(array, **members):
+    return rechunking(array, task_chunks=array.task_chunks(), **members)
+
+
+def bound(array):
+    worth = {"read_elements": array.random.choice([0, 1, GREATEST])} if array.generator.one_in(3) else {}
+    return {"max_elements": array.bound(), **worth}
+
+
 def bounded(array, **members):
-    return rechunking(array, max_elements=array.bound(), **members)
+    return rechunking(array, **bound(array), **members)
 
 
 PLANS = {
@@ -193,12 +213,15 @@ PLANS = {
     "share by source": lambda array: rechunking(array, order="source", share=array.share()),
     "counts of a rechunking": lambda array: rechunking(array, counts=True),
     "counts of a box of chunks": lambda array: rechunking(array, counts=True, chunks=array.chunks()),
-    "one stage": bounded,
+    "tasks": by_tasks,
+    "share of tasks": lambda array: by_tasks(array, share=array.share()),
+    "tasks by source": lambda array: by_tasks(array, order="source"),
+    "counts of tasks": lambda array: by_tasks(array, counts=True),
+    "tasks of a region": lambda array: {**array.region(), "task_chunks": array.task_chunks()},
     "first stage": lambda array: bounded(array, stage=1),
-    "second stage": lambda array: bounded(array, stage=2),
     "share of a stage": lambda array: bounded(array, stage=1, share=array.share()),
-    "counts of a stage": lambda array: bounded(array, stage=2, counts=True),
-    "counts of both stages": lambda array: bounded(array, counts=True),
+    "counts of stages": lambda array: bounded(array, counts=True),
+    "counts of stages of a region": lambda array: {**array.region(), **bound(array), "counts": True},
     "region": Array.region,
     "share of a region": lambda array: {**array.region(), "share": array.share()},
     "counts of a region": lambda array: {**array.region(), "counts": True},
@@ -208,6 +231,9 @@ PLANS = {
     "keys of a share": lambda array: rechunking(array, keys=True, share=array.share()),
     "keys of a region": lambda array: {**array.region(), "keys": True},
 }
+# Tasks are chosen among shapes. In arrays of the other forms there can be very many, and the choice may take minutes.
+CHOSEN = ["first stage", "share of a stage", "counts of stages", "counts of stages of a region"]
+FORMS_CHOSEN = [few, huge, millions, flat]
 
 
 def plan(array, members):
@@ -372,7 +398,8 @@ def all_families():
     """The families of each program, by their names."""
     plans, questions, lists = {}, {}, {}
     for name, members in PLANS.items():
-        plans |= families_of(name, lambda array, members=members: plan(array, members(array)))
+        forms = FORMS_CHOSEN if name in CHOSEN else FORMS
+        plans |= families_of(name, lambda array, members=members: plan(array, members(array)), forms)
     for call in CALLS:
         questions |= families_of(call, lambda array, call=call: question(array, call), [runs] if call in OF_RECTILINEAR else FORMS)
     for member in ("indices", "keys"):

@@ -2,27 +2,30 @@
 """Writes chunks of the target of a rechunking, or of the copy of a region, by the lines that `chunkplan` wrote, from
 standard input.
 
-    copy_chunks.py SOURCE TARGET [--subset START SHAPE [--at INDEX]] [--alone] [--done FILE] [--resume FILE] [--cache MB]
-                   [--missing-is-an-error] [--no-sync]
+    copy_chunks.py SOURCE TARGET [--subset START SHAPE [--at INDEX]] [--task-chunks COUNTS] [--alone] [--done FILE]
+                   [--resume FILE] [--cache MB] [--missing-is-an-error] [--no-sync]
 
 SOURCE and TARGET are folders of Zarr arrays, of format 2 or 3; --subset and --at tell the region, as for `document_of.py`.
 A chunk of the target that holds elements beside the region is read first, and keeps them: two plans that give something
 to one chunk have to run one after the other.
 
-Lines of a rechunking in the order of the source are taken, too. The chunk of the source is read once, and each chunk of the
-target that gets all its elements from it is written. One that gets some from others is read, or begun with the fill value,
-and written again, but only with --alone, since two workers that do so at once lose elements: a second worker with --alone is
-refused. Without it such a line is refused before anything of it is written.
+In a line of a task, it fills a buffer from chunks of the source, each read once, and writes it to chunks of the target. If the
+number of chunks of a task is given by --task-chunks, the number of each line is checked, too.
+
+In a rechunking in the order of the source, or by tasks of the source's chunks, several lines may write one chunk of the target.
+The worker reads that chunk, or begins it with the fill value, and writes it again. It does so only with --alone, since two
+workers that do so at once lose elements: a second worker with --alone is refused. Without it such a line is refused before
+anything of it is written.
 
 When a line's chunks are in their places, the line's `number` and `of` are printed, as JSON, in the order of the source with
-`"order":"source"`. --done appends the same to a file, with a mark of what the line read and wrote. --resume passes over the
-lines that such a file has, and may name the same one. It does a line again if the line's chunks or the metadata were changed
-since. Where another program changed a chunk that several lines write, it refuses the line. --cache bounds the decoded chunks
-of the source that are kept, for lines in the order of the target.
+`"order":"source"`, and of a task with `"order":"task"`. --done appends the same to a file, with a mark of what the line
+read and wrote. --resume passes over the lines that such a file has, and may name the same one. It does a line again if the
+line's chunks or the metadata were changed since. Where another program changed a chunk that several lines write, it refuses
+the line. --cache bounds the decoded chunks of the source that are kept, for lines of one chunk of the target each.
 
 Numbers are said when the disk has the chunks too, some hundred at a time or once a second. With --no-sync they are said
-at once: then chunks that were done may be lost where the machine crashes, but not where a process does. In the order of the
-source begin anew then, without --resume: a chunk that is there may lack what a line gave it.
+at once: then chunks that were done may be lost where the machine crashes, but not where a process does. If several lines write
+one chunk, begin anew then, without --resume: a chunk that is there may lack what a line gave it.
 
 A chunk of the source that isn't stored has the fill value, and with --missing-is-an-error it is refused. The run stops if
 the source's metadata are gone or changed then. It doesn't begin if the source's folder has files and none is a chunk, since
@@ -49,8 +52,11 @@ import uuid
 
 import numpy
 
-from region import add_region, region_between
+from region import add_region, add_task_chunks, grouped, region_between
 from stored_arrays import UNFINISHED, Refused, ended_by, identity_of, on_a_line, open_array
+
+
+M_MMAP_THRESHOLD = -3  # of glibc
 
 
 class Sources:
@@ -119,145 +125,151 @@ def in_array(array, chunk, box):
     return [first + step for first, step in zip(array.held(chunk)[0], box[0])], box[1]
 
 
-def fault_of(line, source, target, region):
-    """What is wrong with a line, or None. Where nothing is, its boxes have each element once that the region gives the
-    target's chunk: they lie in different chunks of the source, inside the region, and have as many elements together."""
-    to, parts = line["to"], line["from"]
-    count = region.count(target)
-    if not (type(line["number"]) is int and type(line["of"]) is int and 0 <= line["number"] < line["of"] <= count):
-        return "a number that is none of the plan's"
-    if not is_chunk(target, to):
-        return f"{to['key']} isn't a chunk of the target"
-    given = region.given(to["chunk"], target)
-    if 0 in given[1]:
-        return f"{to['key']} gets nothing"
-    if line["of"] == count and line["number"] != region.number_of(to["chunk"], target):
-        return f"{to['key']} has another number in the whole plan"
-    if line["whole"] is not (given == target.held(to["chunk"])):
-        return f"`whole` doesn't say whether {to['key']} has elements besides, which would be lost"
-    for part in parts:
-        if not is_chunk(source, part):
-            return f"{part['key']} isn't a chunk of the source"
-        if not all(is_box(part[box], len(target.shape)) for box in ("in_chunk", "in_target")):
-            return f"a box of {part['key']} isn't one of the array"
-        here, there = in_array(source, part["chunk"], part["in_chunk"]), in_array(target, to["chunk"], part["in_target"])
-        if not (is_within(here, source.held(part["chunk"])) and is_within(there, given) and here[1] == there[1]):
-            return f"a box of {part['key']} isn't inside the chunk and the region"
-        if here[0] != region.in_source(there[0]):
-            return f"a box of {part['key']} isn't the same elements in the target"
-    if len({tuple(part["chunk"]) for part in parts}) != len(parts):
-        return "it names a chunk of the source twice"
-    if sum(math.prod(part["in_chunk"][1]) for part in parts) != math.prod(given[1]):
-        return "its boxes haven't each element that the target's chunk gets"
-    return None
+class Task:
+    """A line: a buffer is filled from chunks of the source and written to chunks of the target. Each chunk is a dictionary with
+    its `chunk`, `key`, `shape`, and two boxes of one shape, `in_chunk` and `in_buffer`. In a chunk of the target, `whole` says
+    whether the line has all its elements, `shared` whether other lines write it too. `kept` says whether it has elements
+    beside the region."""
+
+    def __init__(self, line, source, target, region, groups=None):
+        self.line, self.number, self.of = line, line["number"], line["of"]
+        self.order = "task" if "buffer" in line else "source" if isinstance(line["to"], list) else "target"
+        self.target, self.region = target, region
+        read, written = [line["from"]] if self.order == "source" else line["from"], [line["to"]] if self.order == "target" else line["to"]
+        self.check_chunks(read, source, "source")
+        self.check_chunks(written, target, "target")
+        {"target": self.of_target, "source": self.of_source, "task": self.of_task}[self.order](read, written, source)
+        self.check_boxes(source)
+        if self.order == "task" and groups:
+            chunk = self.written[0]["chunk"]
+            group = [number * edge // long for number, edge, long in zip(chunk, target.chunk_shape, groups.chunk_shape)]
+            is_numbered = (self.number, self.of) == (region.number_of(group, groups), region.count(groups))
+            self.check(is_numbered and self.box == region.given(group, groups), "it isn't the task of its number")
+        for to in self.written:
+            given, box = region.given(to["chunk"], target), in_array(target, to["chunk"], to["in_chunk"])
+            to["shared"], to["kept"] = box != given, given != target.held(to["chunk"])
+
+    def of_target(self, read, written, source):
+        """A line of one chunk of the target: the buffer is what the region gives the chunk."""
+        to, count = written[0], self.region.count(self.target)
+        held, given = self.target.held(to["chunk"]), self.region.given(to["chunk"], self.target)
+        self.check(0 not in given[1], f"{to['key']} gets nothing")
+        self.check(self.of <= count, "it has another number of lines than the plan")
+        is_numbered = self.of < count or self.number == self.region.number_of(to["chunk"], self.target)
+        self.check(is_numbered, f"{to['key']} has another number in the whole plan")
+        self.buffer, begin = given[1], [first - least for first, least in zip(given[0], held[0])]
+        self.written = [{**to, "in_chunk": (begin, given[1]), "in_buffer": ([0] * len(begin), given[1]), "whole": self.line["whole"]}]
+        self.check_pieces(read, "in_target")
+        placed = [([first - least for first, least in zip(part["in_target"][0], begin)], part["in_target"][1]) for part in read]
+        self.read = [{**part, "in_buffer": box} for part, box in zip(read, placed)]
+
+    def of_source(self, read, written, source):
+        """A line of one chunk of the source: the buffer is what the chunk holds."""
+        giver = read[0]
+        self.check(source.shape == self.target.shape == self.region.shape, "it is one of the whole array, and not of a region")
+        is_numbered = (self.number, self.of) == (self.region.number_of(giver["chunk"], source), self.region.count(source))
+        self.check(is_numbered, f"{giver['key']} has another number in the plan")
+        self.buffer = source.held(giver["chunk"])[1]
+        all_of_it = [0] * len(self.buffer), self.buffer
+        self.read = [{**giver, "in_chunk": all_of_it, "in_buffer": all_of_it}]
+        self.check_pieces(written, "in_source")
+        self.written = [{**to, "in_buffer": to["in_source"]} for to in written]
+
+    def of_task(self, read, written, source):
+        """A line of a task, which says all itself."""
+        self.buffer, self.read, self.written = self.line["buffer"], read, [dict(to) for to in written]
+        self.check(is_box((self.buffer, self.buffer), len(self.region.shape)), "its buffer isn't one of the array")
+        self.check(0 not in self.buffer and self.read and self.written, "it moves nothing")
+        self.check(self.of <= max(math.prod(self.region.shape), 1), "it has another number of lines than the plan")
+        self.check_pieces([*read, *written], "in_buffer")
+
+    def check(self, is_right, fault):
+        if not is_right:
+            raise Refused(f"line {self.number}: {fault}")
+
+    def check_chunks(self, pieces, array, name):
+        is_numbered = type(self.number) is int and type(self.of) is int and 0 <= self.number < self.of
+        self.check(is_numbered, "a number that is none of the plan's")
+        for piece in pieces:
+            self.check(is_chunk(array, piece), f"{piece['key']} isn't a chunk of the {name}")
+        self.check(len({tuple(piece["chunk"]) for piece in pieces}) == len(pieces), f"it names a chunk of the {name} twice")
+
+    def check_pieces(self, pieces, other):
+        for piece in pieces:
+            boxes = all(is_box(piece[box], len(self.target.shape)) for box in ("in_chunk", other))
+            self.check(boxes and piece["in_chunk"][1] == piece[other][1], f"a box of {piece['key']} isn't one of the array")
+
+    def check_boxes(self, source):
+        """What is read fills the buffer, and what is written empties it. The boxes lie in different chunks, at the places of the
+        region, and have as many elements together as the buffer."""
+        region, target = self.region, self.target
+        first = self.written[0]
+        begin, whole = in_array(target, first["chunk"], first["in_chunk"])[0], ([0] * len(self.buffer), self.buffer)
+        place = [index - step for index, step in zip(begin, first["in_buffer"][0])]  # of the buffer in the target's array
+        self.box = place, self.buffer
+        self.check(is_within(self.box, (region.at, region.shape)), "its buffer isn't inside the region")
+        for pieces, array in ((self.read, source), (self.written, target)):
+            for piece in pieces:
+                box = in_array(array, piece["chunk"], piece["in_chunk"])
+                inside = is_within(box, array.held(piece["chunk"])) and is_within(piece["in_buffer"], whole)
+                self.check(inside, f"a box of {piece['key']} isn't inside the chunk and the buffer")
+                index = [first + step for first, step in zip(place, piece["in_buffer"][0])]
+                index = region.in_source(index) if array is source else index
+                self.check(box[0] == index, f"a box of {piece['key']} isn't the same elements in the target")
+            count = sum(math.prod(piece["in_buffer"][1]) for piece in pieces)
+            self.check(count == math.prod(self.buffer), "its boxes haven't each element of the buffer")
+        for to in self.written:
+            has_all = in_array(target, to["chunk"], to["in_chunk"]) == target.held(to["chunk"])
+            self.check(to["whole"] is has_all, f"`whole` doesn't say whether {to['key']} has elements besides, which would be lost")
 
 
-def fault_by_source(line, source, target, region):
-    """The same of a line in the order of the source. Where nothing is wrong, its boxes have each element once that the
-    source's chunk holds: they lie in different chunks of the target, and have as many elements together."""
-    giver, pieces = line["from"], line["to"]
-    if not source.shape == target.shape == region.shape:
-        return "it is one of the whole array, and not of a region"
-    if not is_chunk(source, giver):
-        return f"{giver['key']} isn't a chunk of the source"
-    if not all(type(line[name]) is int for name in ("number", "of")):
-        return "a number that is none of the plan's"
-    if (line["number"], line["of"]) != (region.number_of(giver["chunk"], source), region.count(source)):
-        return f"{giver['key']} has another number in the plan"
-    held = source.held(giver["chunk"])
-    for piece in pieces:
-        if not is_chunk(target, piece):
-            return f"{piece['key']} isn't a chunk of the target"
-        if not all(is_box(piece[box], len(target.shape)) for box in ("in_chunk", "in_source")):
-            return f"a box of {piece['key']} isn't one of the array"
-        here, there = in_array(source, giver["chunk"], piece["in_source"]), in_array(target, piece["chunk"], piece["in_chunk"])
-        if not (is_within(here, held) and is_within(there, target.held(piece["chunk"])) and here == there):
-            return f"a box of {piece['key']} isn't the same elements in both chunks"
-        if piece["whole"] is not (there == target.held(piece["chunk"])):
-            return f"`whole` doesn't say whether {piece['key']} gets elements from other lines, which would be lost"
-    if len({tuple(piece["chunk"]) for piece in pieces}) != len(pieces):
-        return "it names a chunk of the target twice"
-    if sum(math.prod(piece["in_source"][1]) for piece in pieces) != math.prod(held[1]):
-        return "its boxes haven't each element that the source's chunk holds"
-    return None
-
-
-def order_of(line):
-    """In which order the plan is that a line is of: its chunk is one of the target, or of the source."""
-    return "source" if isinstance(line["to"], list) else "target"
-
-
-def written_by(line):
-    """The chunks of the target that a line writes."""
-    return line["to"] if order_of(line) == "source" else [line["to"]]
-
-
-def read_by(line):
-    """The chunks of the source that a line reads."""
-    return [line["from"]] if order_of(line) == "source" else line["from"]
-
-
-def is_shared(to):
-    """Whether other lines of the plan write a chunk, too."""
-    return not to.get("whole", True)
-
-
-def keeps_some(line, to):
-    """Whether a chunk that a line writes keeps elements that it had: those of other lines, or beside the region."""
-    return is_shared(to) or not line.get("whole", True)
-
-
-def line_of(text, source, target, region):
-    """A line of a plan, checked against both arrays."""
+def task_of(text, source, target, region, groups=None):
+    """A line of a plan, checked against both arrays, and a line of a task against the groups of chunks, if they are known."""
     try:
-        line = json.loads(text)
-        fault = (fault_by_source if order_of(line) == "source" else fault_of)(line, source, target, region)
-    except (ValueError, KeyError, TypeError, RecursionError) as error:
+        return Task(json.loads(text), source, target, region, groups)
+    except (ValueError, KeyError, TypeError, IndexError, AttributeError, RecursionError) as error:
         raise Refused(f"this is no line of a plan: {text[:60]!r}: {error!r}") from error
-    if fault:
-        raise Refused(f"line {line['number']}: {fault}")
-    return line
 
 
 def slices(box):
-    return tuple(slice(first, first + size) for first, size in zip(*box))
+    """A box as an index of numpy, which gives an array also if there are no dimensions."""
+    return (..., *(slice(first, first + size) for first, size in zip(*box)))
 
 
-def assemble(chunk, line, sources, target):
-    """Gives a chunk the elements that a line tells of."""
-    if not line["whole"]:  # what it has besides stays as it is
-        chunk[...] = target.read(line["to"]["chunk"])
-    else:
-        begin(chunk, line["to"]["chunk"], target)
-    for part in line["from"]:
-        chunk[slices(part["in_target"])] = sources.chunk(part["chunk"])[slices(part["in_chunk"])]
-
-
-def begin(chunk, numbers, target, some=False):
-    """Gives a chunk the fill value beyond the array, and where it gets but some of its elements, everywhere."""
-    if some or target.held(numbers)[1] != target.chunk_shape:
+def begin(chunk, to, target):
+    """Gives a chunk the elements that it keeps. If it has none, it gets the fill value beyond the array, and if other lines
+    write it too, everywhere."""
+    if to["kept"] or to["shared"] and target.has(to["chunk"]):
+        chunk[...] = target.read(to["chunk"])
+    elif to["shared"] or target.held(to["chunk"])[1] != target.chunk_shape:
         chunk[...] = numpy.zeros((), target.dtype) if target.fill is None else target.fill
 
 
-def put_piece(chunk, piece, elements, target):
-    """Gives a chunk what a line in the order of the source gives it. What it has of other lines stays as it is."""
-    if is_shared(piece) and target.has(piece["chunk"]):
-        chunk[...] = target.read(piece["chunk"])
-    else:
-        begin(chunk, piece["chunk"], target, some=is_shared(piece))
-    chunk[slices(piece["in_chunk"])] = elements[slices(piece["in_source"])]
+def fill(buffer, task, read):
+    for part in task.read:
+        buffer[slices(part["in_buffer"])] = read(part["chunk"])[slices(part["in_chunk"])]
 
 
-def filled(chunk, line, sources, target):
-    """Makes each chunk of the target that a line writes, one after another in the same memory, and tells which one it is."""
-    if order_of(line) == "target":
-        assemble(chunk, line, sources, target)
-        yield line["to"]
+def filled(task, sources, target):
+    """Makes each chunk of the target that a task writes, one after another, and yields which one it is. A chunk that is all of
+    the buffer is made in its place, so a worker never holds both."""
+    read = sources.chunk if task.order == "target" else sources.once
+    if task.order == "target" or len(task.written) == 1 and task.buffer == target.chunk_shape:
+        to, chunk = task.written[0], target.new_chunk()
+        begin(chunk, to, target)
+        fill(chunk[slices(to["in_chunk"])], task, read)
+        yield to, chunk
         return
-    elements = sources.once(line["from"]["chunk"])
-    for piece in line["to"]:
-        put_piece(chunk, piece, elements, target)
-        yield piece
+    if len(task.read) == 1:
+        buffer = read(task.read[0]["chunk"])[slices(task.read[0]["in_chunk"])]
+    else:
+        buffer = numpy.empty(task.buffer, target.dtype)
+        fill(buffer, task, read)
+    chunk = target.new_chunk()
+    for to in task.written:
+        begin(chunk, to, target)
+        chunk[slices(to["in_chunk"])] = buffer[slices(to["in_buffer"])]
+        yield to, chunk
 
 
 class Store:
@@ -306,9 +318,9 @@ class Record:
         self.file = None if file is None else opened_behind(file)
         self.waiting, self.last = [], time.monotonic()
 
-    def begin(self, line, to, identity):
+    def begin(self, task, to, identity):
         """Says what a chunk that several lines write will be, so that a later run knows it even if this one is killed."""
-        self.append({"begun": to["key"], "by": [line["number"], line["of"]], "is": identity})
+        self.append({"begun": to["key"], "by": [task.number, task.of], "is": identity})
         if self.sync and self.file is not None:
             os.fsync(self.file)
 
@@ -316,9 +328,9 @@ class Record:
         if self.file is not None:
             say(self.file, json.dumps(what).encode() + b"\n")
 
-    def add(self, line, mark):
-        order = {"order": "source"} if order_of(line) == "source" else {}
-        self.waiting.append(({"number": line["number"], "of": line["of"], **order}, mark))
+    def add(self, task, mark):
+        order = {} if task.order == "target" else {"order": task.order}
+        self.waiting.append(({"number": task.number, "of": task.of, **order}, mark))
         if not self.sync or len(self.waiting) >= self.MOST or time.monotonic() - self.last > self.SECONDS:
             self.say_all()
 
@@ -388,9 +400,9 @@ def left_in(file):
     return left
 
 
-def mark_of(line, source, target, read, written):
+def mark_of(task, source, target, read, written):
     """By what a later run knows that a line would read and write the same: the line, the metadata, and the chunks' identities."""
-    marked = [json.dumps(line), source.written, target.written, read, written]
+    marked = [json.dumps(task.line), source.written, target.written, read, written]
     return hashlib.blake2b(repr(marked).encode(), digest_size=8).hexdigest()
 
 
@@ -399,8 +411,8 @@ class Resumed:
 
     def __init__(self, file, source, target):
         self.file, self.source, self.target = file, source, target
-        self.done = {order: done_in(file, order) if file else {} for order in ("target", "source")}
-        self.left = left_in(file) if self.done["source"] else {}
+        self.done = {order: done_in(file, order) if file else {} for order in ("target", "source", "task")}
+        self.left = left_in(file) if self.done["source"] or self.done["task"] else {}
         self.became = {}  # of chunks that several lines write: nothing, or that it was lost or changed before this run
 
     def became_of(self, to):
@@ -410,21 +422,19 @@ class Resumed:
             self.became[to["key"]] = "" if is_left else "changed" if identity else "lost"
         return self.became[to["key"]]
 
-    def passes_over(self, line):
+    def passes_over(self, task):
         """Whether a line needn't be done again. If a chunk that several lines write was lost or changed, all of them must be."""
-        done = self.done[order_of(line)]
-        if not done:
-            return False
-        gone = {to["key"]: self.became_of(to) for to in written_by(line) if is_shared(to) and self.became_of(to)}
-        mark = done.get((line["number"], line["of"]))
+        mark = self.done[task.order].get((task.number, task.of))
+        gone = {to["key"]: self.became_of(to) for to in task.written if to["shared"] and self.done[task.order]}
         if mark is None:
             return False
         for key, became in gone.items():
-            told = f"chunk {key} of {self.target.folder} was {became} since line {line['number']} was done"
-            raise Refused(f"{told}: remove {self.file} and do all lines again")
-        read = [self.source.identity(part["chunk"]) for part in read_by(line)]
-        written = [self.target.identity(to["chunk"]) for to in written_by(line) if not is_shared(to)]
-        return mark == mark_of(line, self.source, self.target, read, written)
+            if became:
+                told = f"chunk {key} of {self.target.folder} was {became} since line {task.number} was done"
+                raise Refused(f"{told}: remove {self.file} and do all lines again")
+        read = [self.source.identity(part["chunk"]) for part in task.read]
+        written = [self.target.identity(to["chunk"]) for to in task.written if not to["shared"]]
+        return mark == mark_of(task, self.source, self.target, read, written)
 
 
 class Progress:
@@ -448,30 +458,31 @@ def copy(lines, source, target, region, words):
         if words.done and words.done != words.resume and any(lines_in(words.done)):
             raise Refused(f"{words.done} has lines of another run: go on from it by --resume, or name another file")
     resumed = Resumed(words.resume, source, target)
-    chunk = target.new_chunk()  # the same memory for all of them
+    groups = words.task_chunks is not None and grouped(target, words.task_chunks)
     done, written, of = 0, 0, 0
     try:
         for text in lines:
             if text.startswith(FOREIGN):
                 print(on_a_line(f"copy_chunks.py: {target.folder} has a key that isn't its own: {text.strip()}"), file=sys.stderr)
                 continue
-            line = line_of(text, source, target, region)
-            of = line["of"]
-            if resumed.passes_over(line):
+            task = task_of(text, source, target, region, groups)
+            of = task.of
+            if resumed.passes_over(task):
                 continue
-            shared = [to["key"] for to in written_by(line) if is_shared(to)]
+            shared = [to["key"] for to in task.written if to["shared"]]
             if shared and not words.alone:
-                raise Refused(f"line {line['number']}: other lines write chunk {shared[0]}, too: one worker has to do them all, with --alone")
+                raise Refused(f"line {task.number}: other lines write chunk {shared[0]}, too: one worker has to do them all, with --alone")
             sources.seen.clear()
             identities = []  # of the chunks that this line alone writes
-            for to in filled(chunk, line, sources, target):
-                announce = functools.partial(record.begin, line, to) if is_shared(to) else identities.append
+            for to, chunk in filled(task, sources, target):
+                announce = functools.partial(record.begin, task, to) if to["shared"] else identities.append
                 try:
-                    store.put(to["chunk"], chunk, keeps_some(line, to) and not words.no_sync, announce)
+                    store.put(to["chunk"], chunk, not to["whole"] and not words.no_sync, announce)
                 except OSError as error:
                     raise Refused(f"chunk {to['key']} of {target.folder} can't be written: {error}") from error
                 written += 1
-            record.add(line, mark_of(line, source, target, sources.seen, identities))
+            del chunk  # before the next line takes memory
+            record.add(task, mark_of(task, source, target, sources.seen, identities))
             done += 1
             progress.show(done, of)
     finally:
@@ -486,6 +497,7 @@ def main():
     parser.add_argument("source", metavar="SOURCE")
     parser.add_argument("target", metavar="TARGET")
     add_region(parser)
+    add_task_chunks(parser)
     parser.add_argument("--alone", action="store_true", help="also change chunks that several lines give elements to: no other worker does")
     parser.add_argument("--done", metavar="FILE", help="append the number of each line that is done")
     parser.add_argument("--resume", metavar="FILE", help="pass over the lines that were done, by such a file")
@@ -497,6 +509,8 @@ def main():
     source, target = open_array(words.source), open_array(words.target)
     region = region_between(source, target, words.subset, words.at)
     source.check_keys()
+    with contextlib.suppress(AttributeError):  # a large chunk's memory goes back to the system when it is freed
+        ctypes.CDLL(None).mallopt(M_MMAP_THRESHOLD, 2**20)
     signal.signal(signal.SIGTERM, lambda *_: sys.exit("copy_chunks.py: terminated"))  # so that nothing unfinished is left
     copy(sys.stdin, source, target, region, words)
 

@@ -1,20 +1,21 @@
 #!/usr/bin/env python3
 """Prints what `chunkplan` reads for a rechunking, or for the copy of a region, from the metadata of both arrays.
 
-    document_of.py SOURCE TARGET [--subset START SHAPE [--at INDEX] | --by-source | --max-elements N [--stage S]]
-                                 [--share T N] [--keys]
+    document_of.py SOURCE TARGET [--subset START SHAPE [--at INDEX]] [--by-source] [--task-chunks COUNTS]
+                                 [--max-elements N [--stage S]] [--share T N] [--keys]
 
-SOURCE and TARGET are folders of Zarr arrays, of format 2 or 3. With --subset it is a box of the source that is copied,
-to where it begins at an index in the target. With --by-source it asks for a line for each chunk of the source. With
---max-elements it asks for lines whose workers hold at most N elements: of one stage, or with --stage of the first or of
-the second one, by the array that `make_between.py` makes. With --share it asks for the share T of N. With --keys the
-keys that TARGET has stand behind the document, but for those of metadata and of what isn't finished. Where the target
-can't have the source's elements, or an array is one that isn't moved here, it says so and ends with the status 1.
+SOURCE and TARGET are folders of Zarr arrays, of format 2 or 3. With --subset a box of the source is copied, to where it
+begins at an index in the target. With --by-source it asks for a line for each chunk of the source. With --task-chunks it
+asks for tasks of this number of chunks. With --max-elements it asks for the cheapest tasks that hold at most N elements,
+and with --stage for the tasks of one stage. The first stage of two writes the array of `make_intermediate.py`. With --share it
+asks for the share T of N. With --keys the keys that TARGET has follow the document, without metadata and unfinished
+files. Where the target can't have the source's elements, or an array is one that isn't moved here, it says so
+and ends with the status 1.
 """
 import argparse
 import json
 
-from region import add_region, region_between
+from region import add_region, add_task_chunks, region_between
 from stored_arrays import METADATA, Refused, ended_by, files_in, open_array
 
 
@@ -45,9 +46,10 @@ def main():
     parser.add_argument("source", metavar="SOURCE")
     parser.add_argument("target", metavar="TARGET")
     add_region(parser)
+    add_task_chunks(parser)
     parser.add_argument("--by-source", action="store_true", help="ask for a line for each chunk of the source")
-    parser.add_argument("--max-elements", type=int, metavar="N", help="ask for lines that hold at most N elements")
-    parser.add_argument("--stage", type=int, choices=(1, 2), help="ask for the lines of one of two stages")
+    parser.add_argument("--max-elements", type=int, metavar="N", help="ask for tasks that hold at most N elements")
+    parser.add_argument("--stage", type=int, metavar="S", help="ask for the tasks of the stage S")
     parser.add_argument("--share", nargs=2, type=int, metavar=("T", "N"), help="ask for the share T of N")
     parser.add_argument("--keys", action="store_true", help="leave out what TARGET has")
     words = parser.parse_args()
@@ -56,7 +58,7 @@ def main():
     document = document_of(source, target, words.subset, words.at)
     if words.by_source:
         document["order"] = "source"
-    asked = {"max_elements": words.max_elements, "stage": words.stage, "share": words.share, "keys": words.keys or None}
+    asked = {name: getattr(words, name) for name in ("task_chunks", "max_elements", "stage", "share")} | {"keys": words.keys or None}
     document |= {name: value for name, value in asked.items() if value is not None}
     keys = list(keys_in(target.folder)) if words.keys else []
     print(json.dumps(document))

@@ -7,7 +7,7 @@ fingerprint() {
 mark=$(fingerprint)
 finished=$1/finished
 if [ "$2" = --again ]; then
-    rm -rf "$1"/done.* "$1/between" "$finished"
+    rm -rf "$1"/done.* "$1/intermediate" "$finished"
 elif [ -n "$2" ]; then
     echo "$2 isn't known: the last word may be --again" >&2
     exit 1

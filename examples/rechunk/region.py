@@ -1,4 +1,5 @@
-"""What of the source goes where in the target: a box of its elements. Of a rechunking it is the whole array, in its place."""
+"""What of the source goes where in the target: a box of its elements, which in a rechunking is the whole array. And the groups of
+chunks of tasks."""
 import dataclasses
 import math
 
@@ -37,6 +38,11 @@ class Region:
     def each(self, target):
         """The chunks that it meets in row-major order, one by one: there may be more than fit in memory."""
         return (self.chunk_at(number, target) for number in range(self.count(target)))
+
+    def part(self, number, target):
+        """The part of the region that goes to the chunk with a number."""
+        at, shape = self.given(self.chunk_at(number, target), target)
+        return Region(self.in_source(at), shape, at)
 
     def given(self, chunk, target):
         """What it gives a chunk of the target: the first element in the target's array, and how many along each dimension."""
@@ -91,6 +97,18 @@ def region_between(source, target, subset=None, at=None):
 def numbers(text):
     """Numbers with commas between them."""
     return [int(number) for number in text.split(",")] if text else []
+
+
+def grouped(array, counts):
+    """The array with chunks that each join a number of its neighbouring chunks along each dimension."""
+    if len(counts) != len(array.shape) or min(counts, default=1) < 1:
+        raise Refused(f"tasks of {counts} chunks, in an array of {len(array.shape)} dimensions")
+    return dataclasses.replace(array, chunk_shape=[edge * count for edge, count in zip(array.chunk_shape, counts)])
+
+
+def add_task_chunks(parser):
+    """How many neighbouring chunks a task takes."""
+    parser.add_argument("--task-chunks", type=numbers, metavar="COUNTS", help="how many chunks a task takes along each dimension, as 1,4")
 
 
 def add_region(parser):

@@ -12,8 +12,11 @@
 //! there are, takes of the lines the share with this number, counted from 0. With `counts` true there is one line in their place, of how much the plan
 //! copies, for who sizes tasks before they are planned. Neither goes with `resize`. With `keys` true, beside a `target`, the document is the first line, and
 //! each line behind it a key that the target's store has: the lines of what is there are left out, and keys that aren't the target's are told at the end.
-//! Of a rechunking, `order` gives a line for each chunk of the source; `max_elements` says how many elements a worker may hold, and `stage` gives the
-//! lines of one of two stages. Of a read, `item_size` adds which bytes of an uncompressed chunk are wanted.
+//! In a rechunking, `order` gives a line for each chunk of the source. In a read, `item_size` adds which bytes of an uncompressed chunk are wanted.
+//!
+//! With `task_chunks` or `max_elements` beside a `target`, each line is a task. A task fills a buffer from chunks of the source, and writes it to chunks of
+//! the target. `task_chunks` says how many chunks of the target a task takes along each dimension. `max_elements` bounds what a worker holds: the
+//! cheapest tasks are chosen, in one stage or in two. `read_elements` says what one read is worth, and `stage` gives the lines of one stage.
 //!
 //! ```text
 //! {"shape":[4],"chunk_grid":{"name":"regular","configuration":{"chunk_shape":[3]}},
@@ -57,10 +60,14 @@ place of all: how many copies, elements, lines and source chunks there are.
 Neither goes with `resize`. With `keys` true, beside a `target`, the document is
 the first line, and each line behind it a key that the target's store has: what
 is there is left out, and keys that aren't the target's are told at the end.
-Of a rechunking, `order` `source` gives a line for each chunk of the source;
-`max_elements` says how many elements a worker may hold, and beside it `stage`,
-1 or 2, gives the lines of one of two stages. Of a read, `item_size` adds which
-bytes of an uncompressed chunk are wanted.
+In a rechunking, `order` `source` gives a line for each chunk of the source.
+In a read, `item_size` adds which bytes of an uncompressed chunk are wanted.
+With `task_chunks` or `max_elements` beside a `target`, each line is a task: it
+fills a buffer from chunks of the source and writes it to chunks of the target.
+`task_chunks` is how many chunks of the target a task takes along each
+dimension. `max_elements` is how many elements a worker may hold: the cheapest
+tasks are chosen, in one stage or two. `read_elements` is what a read is worth,
+in elements; `stage`, 1 or 2, gives the lines of one stage.
 
   {\"shape\":[4],\"chunk_grid\":{\"name\":\"regular\",\"configuration\":
    {\"chunk_shape\":[3]}},\"chunk_key_encoding\":\"default\",\"subset\":[[1],[3]]}

@@ -14,8 +14,12 @@ pub mod LeftMembers
 pub mod Numbered
 pub mod Pieces
 pub mod ReadsLast
+pub mod RouteLists
 pub mod RunOutcomes
+pub mod SharedLines
+pub mod StagePlans
 pub mod Steps
 pub mod StoredLines
+pub mod TasksBegun
 pub mod Tokens
 pub mod Unended

@@ -8,4 +8,5 @@ pub mod MemberRules
 pub mod Planned
 pub mod Run
 pub mod RunFault
+pub mod Stages
 pub mod seen

@@ -11,12 +11,15 @@
 //! | `ranges` | the byte ranges that a document wants in the lines of a read |
 //! | `opened` | the arrays that a document stores, and the walks over them |
 //! | `plan` | the plan that a document asks for |
-//! | `within` | the plan of a rechunking of which a worker holds at most so many elements |
-//! | `between` | the intermediate array, by which a rechunking goes in two stages |
-//! | `copying` | the lines of a plan, sent as they are made |
+//! | `task_choice` | the tasks that a document wants |
+//! | `route` | the arrays by way of which a copy is made, and its stages |
+//! | `stages` | the stages of a copy by tasks |
+//! | `few_chunks` | whether there are few enough chunks to choose tasks, and to count them |
+//! | `task_lines` | the lines of tasks, sent as they are made |
+//! | `copying` | the other lines of a plan, sent as they are made |
 //! | `line` | one line |
 //! | `part_ranges` | the byte ranges of a part, as a line has them |
-//! | `counting` | the counts of a plan, and the counts of a rechunking and of its two stages, as one line |
+//! | `counting` | the counts of a plan, and the counts of all stages of a copy by tasks, as one line |
 //! | `missing` | what is left of a plan beside keys |
 //! | `product` | products of numbers, in decimal digits |
 //! | `run_fault` | why a run stops |
@@ -36,10 +39,10 @@ ghost use Rattle.programs.specs.declared.chunkplan.run_fault.RunFault.TheVariant
 ghost use Rattle.streams.specs.Streams.{streams_of};
 ghost use Rattle.streams.specs.seen.Sent.{HoldsAll, watched_in, written};
 
-mod between;
 mod copying;
 mod counting;
 mod document;
+mod few_chunks;
 mod keys;
 mod known_members;
 mod line;
@@ -51,8 +54,11 @@ mod part_ranges;
 mod plan;
 mod product;
 mod ranges;
+mod route;
 mod run_fault;
-mod within;
+mod stages;
+mod task_choice;
+mod task_lines;
 
 use document::{Document, parse};
 use keys::{closed_lines, has_keys_behind};
@@ -99,8 +105,7 @@ pub fn run_to_status<R: Read, W: Write, E: Write>(
 /// The first fault: a failed read; a text that is no JSON, or no object; a member that isn't known, then one that is missing, then one that
 /// doesn't go with the others, then one that isn't of its form; a grid or an encoding that can't be made, then those of the target; a box with
 /// another number of dimensions; a box of elements that has no cover, where it isn't clipped to the array; a region that doesn't lie in the array, or
-/// in the target's; lines of one stage that would hold too many elements, no intermediate array, or too much to go through for either; a grid of the new
-/// shape that can't be made. If keys follow the document, then more lines than there are bits for, and then a failed read or a line that isn't UTF-8,
+/// in the target's; no tasks that fit, no such stage, or several stages; a grid of the new shape that can't be made. If keys follow the document, then more lines than there are bits for, and then a failed read or a line that isn't UTF-8,
 /// whichever comes first. If keys follow a document of several lines, this is the fault in place of no JSON. Nothing has been written then. After a
 /// failed write, or where memory runs out, a beginning of the plan may have been written.
 pub fn run<R: Read, W: Write>(

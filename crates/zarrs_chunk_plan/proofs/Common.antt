@@ -39,10 +39,7 @@ pub use Rattle.zarrs_chunk_plan.specs.Rechunking.{AreCopiesInto, Group, IsRechun
 pub use Rattle.zarrs_chunk_plan.specs.Region.{AnyChunk, AreMovedInto, CanBeMoved, EndWithin, IsCopy, MovesTo, moved, shifted}
 pub use Rattle.zarrs_chunk_plan.specs.Resize.{AreResized, HasElementOf, IsChange, IsChanged, IsKept, IsUsed}
 pub use Rattle.zarrs_chunk_plan.specs.Shares.{before_share, between}
-pub use Rattle.zarrs_chunk_plan.specs.Stages.{all_tried, shapes_tried}
-unfoldable pub use Rattle.zarrs_chunk_plan.specs.Stages.{doubled}
 pub use Rattle.zarrs_chunk_plan.specs.declared.resize.plan.Change.{Change}
-pub use Rattle.zarrs_chunk_plan.specs.declared.two_stages.fewest.Edge.{Edge}
 pub use Rattle.zarrs_chunk_plan.specs.seen.Between.{rank}
 pub use Rattle.zarrs_chunk_plan.specs.seen.Changes.{changes_to_come}
 pub use Rattle.zarrs_chunk_plan.specs.seen.Outside.{chunks_of_boxes, lesser}
@@ -51,9 +48,8 @@ pub use Rattle.zarrs_chunk_plan.specs.seen.RegularCounts.{Divides, all_meeting}
 pub use Rattle.zarrs_chunk_plan.specs.seen.Sources.{AreRanges, AreSumAndMost, TakesSome, counters, counters_from, met_along, met_by, met_by_range}
 pub use Rattle.zarrs_chunk_plan.specs.seen.Sources.{met_in, taken, taken_from}
 unfoldable pub use Rattle.zarrs_chunk_plan.specs.seen.Sources.{met}
-pub use Rattle.zarrs_chunk_plan.specs.seen.Stages.{Ascend, FindsFewest, IsChoice, IsRow, edge_of, numbers_of, rows_of}
 unfoldable pub use Rattle.zarrs_chunk_plan.specs.seen.StoredChunks.{is_stored}
-pub use Rattle.zarrs_chunk_plan.specs.seen.Used.{HoldsSome, IsLongest, UsesFirst}
+pub use Rattle.zarrs_chunk_plan.specs.seen.Used.{HoldsSome, UsesFirst}
 pub use Rattle.zarrs_chunks.proofs.Chains.{earlier_has, no_later, same_box}
 pub use Rattle.zarrs_chunks.proofs.ChunksInBoxes.{are_those_inside, chunks_once, inside_fits, length_below, lie_within, made_of, offset_of, source_of}
 pub use Rattle.zarrs_chunks.proofs.Covers.{head_some, tail_some}

@@ -4,3 +4,4 @@ pub mod Exchanged
 pub mod Joined
 pub mod MarkedChunks
 pub mod Regions
+pub mod TwoCopies

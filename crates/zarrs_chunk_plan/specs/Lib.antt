@@ -9,7 +9,6 @@ pub mod Resize
 pub mod Shares
 pub mod SomeCopies
 pub mod SomeParts
-pub mod Stages
 pub mod StoredChunks
 pub mod Strided
 pub mod lemmas

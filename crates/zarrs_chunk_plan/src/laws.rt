@@ -14,8 +14,6 @@
 //! | A copy of a rechunking whose part of the source is whole is the only one of that chunk | [`a_whole_part_is_the_only_one_of_its_chunk`] |
 //! | A rechunking the other way round has the same copies | [`the_other_way_round_has_the_same_copies`] |
 //! | Two rechunkings, the second of what the first one leaves, are together one | [`two_stages_are_together_one`] |
-//! | There are two stages by way of an intermediate array in chunks of each shape | [`there_are_two_stages`] |
-//! | Where a largest chunk of either array holds few enough elements together with one of the other, so do the two chunks of each copy | [`each_line_holds_at_most`] |
 //! | Copies that share the target's chunks out are together the whole one | [`copies_that_share_out_are_the_whole_one`] |
 //! | Each box that has a cover has a plan; there is a copy of each region, into any chunks | [`there_is_a_plan`] |
 //! | Byte ranges of the form that is answered have the bytes of the box's elements, and no other | [`byte_ranges_have_the_bytes_of_the_box`] |
@@ -47,7 +45,6 @@ ghost use Rattle.zarrs_chunk_plan.specs.Resize.{AreChanged, AreChangedChunks, Ar
 ghost use Rattle.zarrs_chunk_plan.specs.declared.resize.changed.ChangedChunks.{ChangedChunks};
 ghost use Rattle.zarrs_chunk_plan.specs.declared.resize.plan.Change.TheVariants.{Delete, Keep, New, Rewrite};
 ghost use Rattle.zarrs_chunk_plan.specs.Shares.{numbered_share};
-ghost use Rattle.zarrs_chunk_plan.specs.Stages.{AreStages, HoldAtMost, NoneIsLonger};
 ghost use Rattle.zarrs_chunk_plan.specs.Strided.{form_of, ranges_of};
 ghost use Rattle.zarrs_chunk_plan.specs.declared.bytes.ranges.ByteRanges.{ByteRanges as ByteRangesValue};
 ghost use Rattle.zarrs_chunk_plan.specs.declared.bytes.ranges.MemoryOrder.{MemoryOrder as MemoryOrderValue};
@@ -326,39 +323,6 @@ pub fn two_stages_are_together_one<
         place mid_chunk mid_place
         × Goes (B.dimensions between.now.grid) (H.dimensions target.now.grid) second index
         mid_chunk mid_place to_chunk to_place) }
-{}
-
-/// There are two stages by way of an intermediate array in chunks of each shape.
-pub fn there_are_two_stages<G: ChunkGridTraits, H: ChunkGridTraits>(source: &G, target: &H)
-    ensures { array_sizes (G.dimensions source.now) ≡ array_sizes (H.dimensions target.now)
-        → (shape : List ℕ) → length shape ≡ length (array_sizes (G.dimensions source.now))
-        → AllByRecursion (λ edge. 0 < edge) shape
-        → (reads : ℕ) × AreStages (G.dimensions source.now) (H.dimensions target.now) shape reads }
-{
-    all_fit(target.array_shape());
-}
-
-/// Where no chunk of the source and none of the target is longer than two shapes that have together at most so many elements, as those of largest chunks,
-/// the two chunks of each copy have no more. So a worker that makes a chunk of the target, and reads those of the source one after another, holds at most
-/// as many. Where all chunks of an array are of one shape, none is longer than that: so it holds of either stage by an intermediate array whose shape
-/// fits.
-pub fn each_line_holds_at_most<
-    G: ChunkGridTraits,
-    E: ChunkKeyEncodingTraits,
-    H: ChunkGridTraits,
-    F: ChunkKeyEncodingTraits,
->(source: &StoredArray<G, E>, target: &StoredArray<H, F>)
-    ensures held { array_sizes (G.dimensions source.now.grid)
-        ≡ array_sizes (H.dimensions target.now.grid) → (most : ℕ) (largest other : List ℕ)
-        → NoneIsLonger (G.dimensions source.now.grid) largest
-        → NoneIsLonger (H.dimensions target.now.grid) other
-        → HoldAtMost most largest other → (chunks : Box) (groups : List Group)
-        → IsRechunking (G.dimensions source.now.grid) (E.is_key source.now.encoding)
-        (H.dimensions target.now.grid) (F.is_key target.now.encoding) chunks groups
-        → (copy : Part × Part) → Contains (copies_of groups) copy
-        → HoldAtMost most copy.0.shape.items copy.1.shape.items }
-    ensures equal { (between : List Dimension) (sizes shape : List ℕ)
-        → AreEqualEdges between sizes shape → NoneIsLonger between shape }
 {}
 
 /// Copies into boxes of chunks that share the target's chunks out are together the whole copy: each element of the region is moved by exactly one copy of

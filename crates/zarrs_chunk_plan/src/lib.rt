@@ -23,7 +23,6 @@
 //! | `resize` | what becomes of the chunks of an array that gets another shape |
 //! | `counts` | how much a plan copies, without a walk over it |
 //! | `bytes` | which bytes of an uncompressed chunk hold the elements of a box |
-//! | `two_stages` | a rechunking by way of an intermediate array, under a bound of memory |
 //! | `shares` | the chunks in a box of chunk numbers, by their number and by shares |
 //! | `stored_array` | an array as it is stored: a grid and an encoding |
 //! | `boxes_from_zero` | the box of all elements of an array, and that of all chunks of a grid |
@@ -39,7 +38,6 @@ mod read;
 mod resize;
 mod shares;
 mod stored_array;
-mod two_stages;
 
 pub use boxes_from_zero::{all_chunks, whole_array};
 pub use bytes::ranges::{ByteRanges, MemoryOrder, byte_ranges};
@@ -62,7 +60,4 @@ pub use shares::chunk_iter::ChunkIter;
 pub use shares::numbered_chunks::{chunk_at, count_below};
 pub use shares::share::Share;
 pub use stored_array::StoredArray;
-pub use two_stages::largest::largest_chunk;
-pub use two_stages::stages::{hold_at_most, shape_between};
-pub use two_stages::stages_error::StagesError;
 pub use zarrs_chunk_parts::{ChunkShapeTinyVec, Part};

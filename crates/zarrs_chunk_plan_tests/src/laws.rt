@@ -6,11 +6,11 @@ use zarrs_chunk_plan::laws::{
     byte_ranges_have_the_bytes_of_the_box, copies_that_share_out_are_the_whole_one,
     each_chunk_has_one_change, each_chunk_has_one_group, each_element_is_copied_once,
     each_element_lies_in_one_part, each_element_stays_in_its_chunk,
-    each_element_that_leaves_or_comes_changes_its_chunk, each_line_holds_at_most,
+    each_element_that_leaves_or_comes_changes_its_chunk,
     grids_of_one_configuration_share_their_chunks, no_two_parts_have_one_key,
     shares_are_together_the_plan, the_other_way_round_has_the_same_copies, the_parts_tile_the_box,
-    the_walk_gives_the_copy, the_walk_gives_the_plan, the_walk_gives_the_resize,
-    there_are_two_stages, there_is_a_plan, there_is_a_resize, two_stages_are_together_one,
+    the_walk_gives_the_copy, the_walk_gives_the_plan, the_walk_gives_the_resize, there_is_a_plan,
+    there_is_a_resize, two_stages_are_together_one,
 };
 
 #[test]
@@ -34,8 +34,6 @@ fn of_copies(rt: HostRuntime) -> Result<(), Fail> {
     a_whole_part_is_the_only_one_of_its_chunk(&source, &target);
     the_other_way_round_has_the_same_copies(&source, &target);
     two_stages_are_together_one(&source, &target, &source);
-    there_are_two_stages(&source.grid, &target.grid);
-    each_line_holds_at_most(&source, &target);
     copies_that_share_out_are_the_whole_one(&source, &target);
     there_is_a_plan(&source, &target);
     Ok(())

@@ -9,7 +9,6 @@
 //! | `cheapest` | the cheapest tasks of a copy |
 //! | `stages` | the cheapest stages of a copy |
 //! | `walks` | walks that stay ended, and that go to any part or group |
-//! | `largest` | the shapes of largest chunks |
 //! | `marks` | which chunks of a plan a store has |
 //! | `refusals` | what no program asks for, since it plans one array at a time |
 //! | `laws` | the laws |
@@ -17,8 +16,6 @@
 
 #[cfg(test)]
 mod cheapest;
-#[cfg(test)]
-mod largest;
 #[cfg(test)]
 mod laws;
 #[cfg(test)]

@@ -4,9 +4,7 @@ use std::alloc::Global;
 use std::process::Abort;
 use std::test::Fail;
 use zarrs_chunk_base::{ArraySubset, IncompatibleDimensionalityError, Refusal};
-use zarrs_chunk_plan::{
-    CopiesError, StagesError, changes, copies, counts_of_rechunking, hold_at_most,
-};
+use zarrs_chunk_plan::{CopiesError, changes, copies, counts_of_rechunking};
 use zarrs_chunks::RegularChunkGrid;
 
 const SHAPES: &str = "the source and the target have different array shapes";
@@ -15,15 +13,6 @@ const CHUNKS: &str = "the box of chunks: incompatible dimensionality 2, expected
 
 /// Why a rechunking isn't planned.
 fn why<T: Drop>(alloc: Global, answer: Result<T, Refusal<CopiesError>>) -> Result<String, Fail> {
-    match answer {
-        Err(Refusal::Refused(error)) => Ok(format!(in alloc; "{error}")?),
-        Err(Refusal::Memory(error)) => Err(error.into()),
-        Ok(_) => Ok(String::from_str(alloc, "it is accepted")?),
-    }
-}
-
-/// Why a bound isn't looked at.
-fn why_no_bound(alloc: Global, answer: Result<bool, Refusal<StagesError>>) -> Result<String, Fail> {
     match answer {
         Err(Refusal::Refused(error)) => Ok(format!(in alloc; "{error}")?),
         Err(Refusal::Memory(error)) => Err(error.into()),
@@ -58,25 +47,12 @@ fn check_refused(
     Ok(())
 }
 
-/// A bound of seven elements isn't looked at, by this text.
-fn check_no_bound(
-    rt: &(impl Abort + AllocGlobal),
-    (source, target): (&Stored, &Stored),
-    expected: &str,
-) -> Result<(), Fail> {
-    let answer = hold_at_most(rt.alloc(), &source.grid, &target.grid, 7);
-    let told = why_no_bound(rt.alloc(), answer)?;
-    check_text(rt, told.as_str(), expected);
-    Ok(())
-}
-
 #[test]
 fn grids_of_two_arrays_are_refused(rt: HostRuntime) -> Result<(), Fail> {
     let alloc = rt.alloc();
     let (seven, eight) = (row(alloc, 7, 4)?, row(alloc, 8, 3)?);
     check_refused(&rt, (&seven, &eight), SHAPES)?;
-    check_refused(&rt, (&seven, &seven), CHUNKS)?;
-    check_no_bound(&rt, (&seven, &eight), SHAPES)
+    check_refused(&rt, (&seven, &seven), CHUNKS)
 }
 
 #[test]

@@ -10,7 +10,7 @@ use zarrs_chunk_tasks::laws::{
     a_rechunking_writes_whole_chunks, counts_are_those_of_the_parts,
     each_element_goes_by_the_buffer, each_task_lies_in_both_arrays, no_chunk_is_in_two_tasks,
     shares_are_together_the_tasks, the_tasks_are_the_copy, the_walk_gives_the_tasks,
-    there_are_tasks,
+    there_are_tasks, two_stages_are_the_copy,
 };
 use zarrs_chunk_tasks::{
     CountsAlong, Task, Tasks, TasksError, task_counts, task_counts_by_source, tasks,
@@ -290,6 +290,7 @@ fn the_laws_hold(rt: HostRuntime) -> Result<(), Fail> {
     let each = edges_of(rt.alloc(), 2)?;
     the_walk_gives_the_tasks(&target.grid);
     the_tasks_are_the_copy(&source.grid, &target.grid, &region);
+    two_stages_are_the_copy(&region);
     no_chunk_is_in_two_tasks(&source.grid, &target.grid);
     each_element_goes_by_the_buffer(&source, &target);
     a_rechunking_writes_whole_chunks(&target);

@@ -98,6 +98,7 @@ module _ (source target : List Dimension) (region : Box) (at : List ℕ) (most w
         let stage = found_some tasks is_one in
         record {
           few = rw is.no_chunks (omega arith);
+          as_many = rw (is.no_chunks, is.tasks) refl;
           tried = rw is.no_chunks tt;
           are = rw (is.no_chunks, is.tasks) stage;
           cost_is = rw (is.tasks, is.cost) (omega (arith, is.fits));
@@ -114,6 +115,7 @@ module _ (source target : List Dimension) (region : Box) (at : List ℕ) (most w
         → (IsTrue is_exact → StagesCostAtLeast source target region at most worth (cost_of_both two)) → AreChosenStages source target region at most worth stages
     of_two two is_exact stages chosen is ones least = record {
       few = rw is.chunks (omega arith);
+      as_many = rw (is.chunks, is.tasks) refl;
       tried = rw is.chunks (sound (map non_zero_u64_get two.chunks.items) (numbers_of_shape rows two.chunks.items chosen.one_of), tt);
       are = rw (is.chunks, is.tasks)
           (λ between made.

@@ -21,7 +21,8 @@ mod SumsAlong
 mod TaskCounts
 mod TaskLaws
 mod TaskParts
+pub mod TaskPlans
 mod TriedEdges
 mod TriedSizes
 mod TwoStages
-mod WalkedTasks
+pub mod WalkedTasks

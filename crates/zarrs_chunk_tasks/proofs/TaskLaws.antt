@@ -1,8 +1,8 @@
 -- What holds of the tasks of every copy.
-use Rattle.std.proofs.Common.{◌≡◌, ◌≢◌, ◌∙◌, ℕ, ◌+◌, ◌-◌, ◌/◌, List, [], ◌∷◌, Contains, length, ap, ap₂, refl, subst, sym, arith}
+use Rattle.std.proofs.Common.{◌≡◌, ◌≢◌, ◌↔◌, ◌∙◌, ℕ, ◌+◌, ◌-◌, ◌/◌, List, [], ◌∷◌, Contains, length, ap, ap₂, refl, subst, sym, arith}
 use Rattle.std.specs.List.{AllByRecursion, AllPairs}
 use Rattle.std.proofs.lemmas.List.{length-map}
-use Rattle.zarrs_chunk_base.specs.ArraySubset.{AreWithin, Box, IsInside}
+use Rattle.zarrs_chunk_base.specs.ArraySubset.{AreWithin, Box, IsBox, IsInside}
 use Rattle.zarrs_chunk_base.specs.Dimension.{Dimension, Holds, InBox, IsChain, array_sizes}
 use Rattle.zarrs_chunk_axes.specs.InBounds.{AreBelow}
 use Rattle.zarrs_chunks.specs.Walks.{chunks_in, counted_from}
@@ -14,7 +14,7 @@ use Rattle.zarrs_chunk_plan.specs.Region.{EndWithin, IsDestination, LiesIn, shif
 use Rattle.zarrs_chunk_plan.proofs.MovedBoxes.{within_below, within_long, within_starts}
 use Rattle.zarrs_chunk_plan.proofs.Plans.{added, counted_once, length_counted, pair_of, pairs_of, source_of}
 use Rattle.zarrs_chunk_tasks.specs.Groups.{InGroup}
-use Rattle.zarrs_chunk_tasks.specs.Tasks.{AreTasks, AreTasksBySource, AreTasksByTarget, AreTheCopy, HasTasks, IsTask, Moves}
+use Rattle.zarrs_chunk_tasks.specs.Tasks.{AreTasks, AreTasksBySource, AreTasksByTarget, AreTheCopy, GoesByBoth, HasTasks, IsTask, Moves}
 use Rattle.zarrs_chunk_tasks.specs.declared.task.Task.{Task}
 
 -- ---- groups
@@ -322,3 +322,31 @@ module _ (source target : List Dimension) (region : Box) (at each : List ℕ) (h
   lies_by_source are =
       task_lies (omega (arith, region_starts, region_sizes)) refl (omega (arith, region_starts, region_sizes, at_starts, at_sizes)) are (array_sizes source)
       (array_sizes target) has.can.in_source has.can.in_target
+
+-- ---- two stages
+
+module _ (region between : Box) (at : List ℕ) (first second : List Task) (is_box : IsBox between) (one_shape : between.shape ≡ region.shape)
+    (to_between : AreTheCopy region between.start first) (from_between : AreTheCopy between at second) (index to : List ℕ) where
+  by_both : IsDestination region at index to → GoesByBoth first second index to
+  by_both goes =
+      let middle = counted_from between.start goes.behind in (
+        middle,
+        (to_between.moved index middle).0 (record { behind = goes.behind; below = goes.below; from = goes.from; into = refl }),
+        (from_between.moved middle to).0
+            (record { behind = goes.behind; below = subst (λ shape. AreBelow shape goes.behind) (sym one_shape) goes.below; from = refl; into = goes.into }),
+      )
+
+  by_one : GoesByBoth first second index to → IsDestination region at index to
+  by_one (middle, one, other) =
+      let goes = (to_between.moved index middle).1 one in
+      let next = (from_between.moved middle to).1 other in
+      let long = length_below region.shape goes.behind goes.below in
+      let also = length_below between.shape next.behind next.below in
+      let same : goes.behind ≡ next.behind =
+      counted_once between.start goes.behind next.behind (omega (arith, long, is_box.lengths, ap length one_shape)) (omega (arith, also, is_box.lengths))
+      (sym goes.into ∙ next.from)
+      in
+      record { behind = goes.behind; below = goes.below; from = goes.from; into = next.into ∙ ap (counted_from at) (sym same) }
+
+  pub both_stages : IsDestination region at index to ↔ GoesByBoth first second index to
+  both_stages = (by_both, by_one)

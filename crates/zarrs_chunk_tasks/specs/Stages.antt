@@ -1,6 +1,6 @@
 -- A copy in stages: by way of intermediate arrays, each of which is cut into chunks of one shape.
 -- Source: Zarr V3 core, regular grid; stages are this library's own, after the field's practice.
-use Rattle.std.specs.Prelude.{◌≡◌, ℕ, ◌+◌, ◌≤◌, IsTrue, List, [], ◌∷◌, MatchOption, Option, Some, Vec, length, map, min}
+use Rattle.std.specs.Prelude.{◌≡◌, ℕ, ◌+◌, ◌≤◌, IsTrue, List, [], ◌∷◌, MatchOption, Option, Some, Vec, length, map, min, suc}
 use Rattle.std.specs.Int.NonZero.{non_zero_u64_get}
 use Rattle.std.specs.List.{AllByRecursion, sum}
 use Rattle.std.specs.declared.alloc.Global.{Global}
@@ -93,10 +93,11 @@ module _ (source target : List Dimension) (region : Box) (at : List ℕ) (most :
     pub one : NoneFit source target region at most
     pub two : AreFewPieces source target region at → OfEachTried source target region at (NoneOfBothFit source target region at most)
 
-  -- The stages that are chosen. There is at most one intermediate array, in chunks of a shape that is tried. The cost is the sum of the stages' costs, up to the
+  -- The stages that are chosen. There is at most one intermediate array, in chunks of a shape that is tried, and one stage more than there are such arrays. The cost is the sum of the stages' costs, up to the
   -- greatest number. If tasks of one stage fit, the stages cost no more than one stage by tasks of one chunk each. If they are exact, nothing tried costs less.
   pub record AreChosenStages (read_elements : ℕ) (found : CheapestStages) : Type 0 where
     pub few : length found.chunks.items ≤ 1
+    pub as_many : length found.tasks.items ≡ suc (length found.chunks.items)
     pub tried : AllByRecursion (λ (shape : Vec NonZeroU64 Global). IsTriedShape source target region at (map non_zero_u64_get shape.items)) found.chunks.items
     pub are : AreStages target at most read_elements source region (map (λ (shape : Vec NonZeroU64 Global). shape.items) found.chunks.items) found.tasks.items
     pub cost_is : found.cost ≡ min greatest_of_128 (sum (map (λ (stage : CheapestTasks). stage.cost) found.tasks.items))

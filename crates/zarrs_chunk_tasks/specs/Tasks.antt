@@ -6,7 +6,7 @@ use Rattle.zarrs_chunk_base.specs.ArraySubset.{Box, IsBox, IsInside}
 use Rattle.zarrs_chunk_base.specs.Dimension.{Dimension}
 use Rattle.zarrs_chunk_base.specs.Refusal.{TellsLengths}
 use Rattle.zarrs_chunks.specs.Walks.{chunks_in, counted_from}
-use Rattle.zarrs_chunk_parts.specs.Plan.{HasElement}
+use Rattle.zarrs_chunk_parts.specs.Plan.{HasElement, IsPlan}
 use Rattle.zarrs_chunk_parts.specs.declared.part.Part.{Part}
 use Rattle.zarrs_chunk_plan.specs.Region.{CanBeMoved, IsDestination, IsRegionFault, moved, shifted}
 use Rattle.zarrs_chunk_tasks.specs.Groups.{HoldsSomeOf, IsBuffer}
@@ -41,6 +41,15 @@ AreTasksByTarget target each region at = AreTasks target each (moved at region) 
 abbrev pub AreTasksBySource : (source : List Dimension) → (each : List ℕ) → (region : Box) → (at : List ℕ) → List Task → Type 0
 AreTasksBySource source each region at = AreTasks source each region region.start at
 
+-- a task with the parts that it reads, and with the parts that it writes
+abbrev pub TaskPlan : Type 0
+TaskPlan = Task × (List Part × List Part)
+
+-- The parts are the plans of the task's boxes: the plan of the one in the source's array is read, and the plan of the other one is written.
+pub record HasParts (source target : List Dimension) (IsSourceKey IsTargetKey : List ℕ → List ℕ → Type 0) (plan : TaskPlan) : Type 0 where
+  pub reads : IsPlan source IsSourceKey plan.0.source plan.1.0
+  pub writes : IsPlan target IsTargetKey plan.0.target plan.1.1
+
 -- the task moves the element at an index of the source's array to an index of the target's: both are as far after the first elements of its boxes
 abbrev pub Moves : Task → (index to : List ℕ) → Type 0
 Moves task = IsDestination task.source task.target.start
@@ -52,6 +61,11 @@ pub record AreTheCopy (region : Box) (at : List ℕ) (tasks : List Task) : Type 
   pub read_once : AllPairs (λ one other. (index to also : List ℕ) → Moves one index to → Moves other index also → ⊥) tasks
   pub one_shape : (task : Task) → Contains tasks task → task.source.shape ≡ task.target.shape
   pub written_once : AllPairs (λ one other. (to index also : List ℕ) → Moves one index to → Moves other also to → ⊥) tasks
+
+-- an element goes by a task of the first stage to some index of the intermediate array, and from there by a task of the second one
+abbrev pub GoesByBoth : (first second : List Task) → (index to : List ℕ) → Type 0
+GoesByBoth first second index to = (between : List ℕ) × ((task : Task) × Contains first task × Moves task index between)
+    × ((task : Task) × Contains second task × Moves task between to)
 
 -- An element goes by way of a task's buffer: a part that the task reads has it, a part that it writes has it where it goes, and both have it at one place
 -- of the buffer.

@@ -5,6 +5,7 @@
 //! |---|---|
 //! | What a walk that `tasks` or `tasks_by_source` returns gives, one after another, are the tasks of the copy | [`the_walk_gives_the_tasks`] |
 //! | Each element of the region is moved by exactly one task, to where it goes; no task moves anything else | [`the_tasks_are_the_copy`] |
+//! | The tasks of two stages, one after another, are the copy | [`two_stages_are_the_copy`] |
 //! | Both boxes of a task lie in their arrays | [`each_task_lies_in_both_arrays`] |
 //! | Shares of the tasks are together the tasks | [`shares_are_together_the_tasks`] |
 //! | No chunk of the grouped array is in two tasks | [`no_chunk_is_in_two_tasks`] |
@@ -13,7 +14,7 @@
 //! | What is counted of a task's box is what its plan reads or writes: its parts, and the elements of their chunks | [`counts_are_those_of_the_parts`] |
 //! | There is a list of tasks for each copy | [`there_are_tasks`] |
 //! | Tasks read no fewer chunks than their largest buffer allows | [`tasks_read_no_fewer`] |
-ghost use Rattle.std.specs.Prelude.{◌≡◌, ◌<◌, ℕ, IsTrue, List, Ok, map};
+ghost use Rattle.std.specs.Prelude.{◌≡◌, ◌↔◌, ◌<◌, ℕ, IsTrue, List, Ok, map};
 ghost use Rattle.std.specs.Int.NonZero.{non_zero_u64_get};
 ghost use Rattle.std.specs.Iterator.{Drains};
 ghost use Rattle.std.specs.List.{AllPairs, Contains, flat_map, range_with_len};
@@ -21,11 +22,11 @@ ghost use Rattle.zarrs_chunk_base.specs.ArraySubset.{Box, IsBox};
 ghost use Rattle.zarrs_chunk_base.specs.Dimension.{array_sizes};
 ghost use Rattle.zarrs_chunk_parts.specs.Plan.{IsPlan, Meets};
 ghost use Rattle.zarrs_chunk_plan.specs.Rechunking.{array_box};
-ghost use Rattle.zarrs_chunk_plan.specs.Region.{LiesIn, moved};
+ghost use Rattle.zarrs_chunk_plan.specs.Region.{IsDestination, LiesIn, moved};
 ghost use Rattle.zarrs_chunk_plan.specs.Shares.{numbered_share};
 ghost use Rattle.zarrs_chunk_tasks.specs.Counts.{AreMet, parts_met};
 ghost use Rattle.zarrs_chunk_tasks.specs.Limits.{HasAtMost, HasPart, OfParts, ReadNoFewer};
-ghost use Rattle.zarrs_chunk_tasks.specs.Tasks.{AreTasks, AreTasksBySource, AreTasksByTarget, AreTheCopy, GoesByBuffer, HasTasks, Moves};
+ghost use Rattle.zarrs_chunk_tasks.specs.Tasks.{AreTasks, AreTasksBySource, AreTasksByTarget, AreTheCopy, GoesByBoth, GoesByBuffer, HasTasks, Moves};
 ghost use Rattle.zarrs_chunk_tasks.specs.seen.Tasks.{ArePlanned, AreTasksToCome, CanGive, GivesTask};
 
 use crate::{Task, Tasks};
@@ -65,6 +66,15 @@ pub fn the_tasks_are_the_copy<G: ChunkGridTraits, H: ChunkGridTraits>(
 {
     region.is_a_box();
 }
+
+/// Two stages are together the copy. The tasks of the first one move the region to an intermediate array of its shape, and the tasks of the second one move that
+/// array on. An element goes by a task of each exactly where it goes in one stage.
+pub fn two_stages_are_the_copy(region: &ArraySubset)
+    ensures { (between : Box) (at : List ℕ) (first second : List Task) → IsBox between
+        → between.shape ≡ region.now.shape → AreTheCopy region.now between.start first
+        → AreTheCopy between at second → (index to : List ℕ)
+        → IsDestination region.now at index to ↔ GoesByBoth first second index to }
+{}
 
 /// Both boxes of a task lie in their arrays, so both have a plan.
 pub fn each_task_lies_in_both_arrays<G: ChunkGridTraits, H: ChunkGridTraits>(source: &G, target: &H)

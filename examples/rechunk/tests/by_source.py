@@ -21,9 +21,9 @@ import numpy
 import zarr
 
 import moves  # which has the folder of the scripts on the path
-from copy_chunks import Sources, done_in, filled, line_of
+from copy_chunks import done_in, task_of
 from document_of import document_of
-from moves import FORMAT_3, TYPES, disk_steps, edits, forget_some, is_refused, is_whole, make_2, random_elements, same, shapes, split, store, tool
+from moves import FORMAT_3, TYPES, carry_out, disk_steps, edits, forget_some, is_refused, is_whole, make_2, random_elements, same, shapes, split, store, tool
 from region import region_between
 from regions import slices, stored
 from stored_arrays import open_array
@@ -35,19 +35,6 @@ if FORMAT_3:
 def plan_of(chunkplan, source, target):
     document = json.dumps({**document_of(source, target), "order": "source"})
     return subprocess.run([chunkplan], input=document, stdout=subprocess.PIPE, check=True, text=True).stdout.splitlines(True)
-
-
-def carry_out(lines, here, there):
-    """Does the lines as `copy_chunks.py --alone` does, in this process. How many chunks of the source were read."""
-    source, target = open_array(here), open_array(there)
-    region = region_between(source, target)
-    sources, chunk = Sources(source, target, region, 0), target.new_chunk()
-    for text in lines:
-        for to in filled(chunk, line_of(text, source, target, region), sources, target):
-            path = target.path(to["chunk"])
-            path.parent.mkdir(parents=True, exist_ok=True)
-            path.write_bytes(target.encode(chunk))
-    return sources.decoded
 
 
 def kinds(chunkplan, generator, count):
@@ -66,7 +53,7 @@ def kinds(chunkplan, generator, count):
                 elements = forget_some(generator, ends[0], elements, fill)
                 plan = plan_of(chunkplan, *map(open_array, ends))
                 generator.shuffle(plan)
-                read = carry_out(plan, *ends)
+                read = carry_out(plan, *ends, most=0)
                 got = zarr.open_array(str(ends[1]), mode="r")[...] if formats[1] == 2 else format_3.read(ends[1], dtype, fill)
                 chunks = int(numpy.prod(open_array(ends[0]).grid()))
                 yield f"{formats}, move {number} of {dtype}, {shape}", same(elements, numpy.asarray(got)) and read == len(plan) == chunks
@@ -85,14 +72,14 @@ def lines(chunkplan, generator, count):
         yield "pieces that are whole, and others", wholes == {True, False}
         for text in plan:
             line = json.loads(text)
-            yield text, line_of(text, source, target, region) == line
+            yield text, task_of(text, source, target, region).line == line
             for edited in edits(line):
-                yield json.dumps(edited), is_refused(lambda: line_of(json.dumps(edited), source, target, region), "line")
+                yield json.dumps(edited), is_refused(lambda: task_of(json.dumps(edited), source, target, region), "line")
             for end in range(len(text) - 1):
-                yield text[:end], is_refused(lambda: line_of(text[:end], source, target, region), "no line of a plan")
+                yield text[:end], is_refused(lambda: task_of(text[:end], source, target, region), "no line of a plan")
         # where a region is copied, the whole array isn't, though this one is of as many elements
         part = region_between(source, target, [[0, 0], [12, 8]], [0, 0])
-        yield "beside a region", is_refused(lambda: line_of(plan[0], source, target, part), "not of a region")
+        yield "beside a region", is_refused(lambda: task_of(plan[0], source, target, part), "not of a region")
         told = tool("copy_chunks.py", *ends, "--alone", "--subset", "1,1", "9,7", input="".join(plan))
         yield "the worker, beside a region", told.returncode == 1 and "not of a region" in told.stderr and not list(ends[1].glob("[0-9]*"))
 

@@ -55,18 +55,20 @@ sys.addaudithook(step)
 PLAN = './document_of.py "$SOURCE" "$TARGET" $REGION {} | "$CHUNKPLAN"'
 WORKER = './copy_chunks.py "$SOURCE" "$TARGET" $REGION $WORDS {} > /dev/null'
 RESUMED = '--done "$ROOM/done" --resume "$ROOM/done"'
+TASKS = "--task-chunks 2,3"
 PIPES = {
     "target": f'{PLAN.format("")} | {WORKER.format(RESUMED)} && ./check_done.py "$TARGET" "$ROOM/done" $REGION',
     "source": f'{PLAN.format("--by-source")} | {WORKER.format("--alone " + RESUMED)} && ./check_done.py "$TARGET" "$ROOM/done" --by-source "$SOURCE"',
+    "tasks": f'{PLAN.format(TASKS)} | {WORKER.format(f"{TASKS} {RESUMED}")} && ./check_done.py "$TARGET" "$ROOM/done" $REGION {TASKS}',
     "keys": f'{PLAN.format("--keys")} | {WORKER.format("")} && ./verify.py "$SOURCE" "$TARGET"',
 }
 ENGINES = [name for name in ("xargs_shares", "parallel_shares", "parallel_pipe") if "parallel" not in name or shutil.which("parallel")]
 WAYS = {
     **PIPES,
     **{name: f'engines/{name}.sh "$SOURCE" "$TARGET" "$ROOM" $AGAIN' for name in ENGINES},
-    "two_stages": './two_stages.sh "$SOURCE" "$TARGET" "$ROOM" 3000 $AGAIN',
+    "two_stages": './two_stages.sh "$SOURCE" "$TARGET" "$ROOM" 400 $AGAIN',
 }
-WITH_REGION = ["target", *ENGINES]
+WITH_REGION = ["target", "tasks", "two_stages", *ENGINES]
 PATIENCE = 120  # seconds, for a run
 KILLS, IN_SOURCE, BETWEEN = ["process", "all"], ["removed", "cut", "edited"], ["next_day", "other_program", "lost"]
 IN_RUN = [*KILLS, *IN_SOURCE, "gone", "full", "read_only"]
@@ -136,6 +138,8 @@ class Move:
         self.cut = Cut(room, chunkplan, **ends, SHARES="3", WORKERS="2")
         self.compressor = generator.choice([numcodecs.Zlib(1), numcodecs.GZip(1), numcodecs.BZ2(1), numcodecs.LZMA(preset=1)])
         self.edges = [[generator.randrange(4, 20) for _ in self.shape] for _ in range(2)]
+        if self.way == "two_stages":  # rows go to columns
+            self.edges = [[2, self.shape[1]], [self.shape[0], 2]]
         array = make_2(self.source, self.shape, self.edges[0], dtype="<i4", fill_value=-1, compressor=self.compressor)
         array[...] = self.elements = numpy.arange(math.prod(self.shape), dtype="<i4").reshape(self.shape)
 
@@ -168,7 +172,7 @@ class Move:
         generator, step = self.generator, self.generator.randrange(1, self.steps())
         name = "copy_chunks.py"
         if fault in KILLS and generator.random() < 0.2:
-            name, step = generator.choice(["document_of.py", "check_done.py", "fingerprint.py", "make_between.py"]), generator.randrange(1, 6)
+            name, step = generator.choice(["document_of.py", "check_done.py", "fingerprint.py", "make_intermediate.py"]), generator.randrange(1, 6)
         with contextlib.ExitStack() as mended:
             command = self.happens(fault, mended) if fault else ":"
             return self.cut.run(WAYS[self.way], step, command, name, **more)

@@ -364,11 +364,13 @@ def many_chunks(chunkplan, generator, moves):
             told = tool("check_done.py", ends[1], done, *words, **limits)
             expected = f"check_done.py: {of - left} of {of} chunks weren't done: {', '.join(map(str, range(left, left + 5)))}, ..\n"
             yield f"check_done.py {words[:1]}", (told.returncode, told.stderr) == (1, expected)
-        told = tool("make_between.py", *ends, room / "between", "--max-elements", 3, **limits)
-        expected = f"by chunks of [1] two stages read {2 * count} chunks; one reads {count}\n"
-        yield "make_between.py", (told.returncode, told.stdout, told.stderr) == (0, expected, "")
-        told = tool("make_between.py", *ends, room / "none", "--max-elements", 1, **limits)
-        yield "make_between.py of 1", told.returncode == 1 and "no chunks" in told.stderr and len(told.stderr.splitlines()) == 1
+        told = tool("make_intermediate.py", *ends, room / "intermediate", "--max-elements", 4, **limits)
+        read = [stage["chunks_read"] for stage in json.loads(told.stdout)["stages"]]
+        yield "make_intermediate.py", (told.returncode, told.stderr, read) == (0, "", [count])
+        told = tool("make_intermediate.py", *ends, room / "none", "--max-elements", 3, **limits)
+        yield "make_intermediate.py of 3", told.returncode == 1 and "raise it" in told.stderr and len(told.stderr.splitlines()) == 1
+        told = tool("check_done.py", ends[1], done, "--task-chunks", 2, **limits)
+        yield "check_done.py of tasks", told.stderr == f"check_done.py: {count // 4} of {count // 4} tasks weren't done: 0, 2, 4, 6, 8, ..\n"
         yield "fingerprint.py", tool("fingerprint.py", ends[1], **limits).returncode == 0
         told = tool("resize_array.py", ends[1], count + 1, **limits)
         yield "resize_array.py", (told.returncode, told.stderr) == (0, "") and open_array(ends[1]).shape == [count + 1]
@@ -386,7 +388,9 @@ def many_chunks(chunkplan, generator, moves):
             make_2(room / "wide", [4], [2], dtype="<i4", fill_value=7)
             (room / "wide" / ".zarray").write_text((room / "wide" / ".zarray").read_text().replace("2\n", f"{edge}\n", 1))
             make_2(room / "few", [4], [2], dtype="<i4", fill_value=7)
-            told = tool("copy_chunks.py", room / "few", room / "wide", input="", **limits)
+            document = tool("document_of.py", room / "few", room / "wide").stdout
+            plan = subprocess.run([chunkplan], input=document, capture_output=True, text=True).stdout
+            told = tool("copy_chunks.py", room / "few", room / "wide", input=plan, **limits)
             yield f"a chunk of {edge} elements", told.returncode == 1 and why in told.stderr and len(told.stderr.splitlines()) == 1
 
 

@@ -28,7 +28,7 @@ from numcodecs.bitround import BitRound
 
 TOOLS = pathlib.Path(__file__).resolve().parent.parent
 sys.path.insert(0, str(TOOLS))
-from copy_chunks import Sources, assemble, line_of  # noqa: E402
+from copy_chunks import Sources, filled, task_of  # noqa: E402
 from document_of import document_of, keys_in  # noqa: E402
 from region import region_between  # noqa: E402
 from stored_arrays import Refused, open_array  # noqa: E402
@@ -149,16 +149,17 @@ def move(chunkplan, here, there, *asked):
     carry_out(plan_of(chunkplan, open_array(here), open_array(there), *asked), here, there, *asked)
 
 
-def carry_out(lines, here, there, *asked):
+def carry_out(lines, here, there, *asked, most=10**6):
+    """Does the lines, and keeps decoded chunks up to a number of bytes. Returns how many chunks were read."""
     source, target = open_array(here), open_array(there)
     region = region_between(source, target, *asked)
-    sources, chunk = Sources(source, target, region, 10**6), target.new_chunk()
+    sources = Sources(source, target, region, most)
     for text in lines:
-        line = line_of(text, source, target, region)
-        assemble(chunk, line, sources, target)
-        path = target.path(line["to"]["chunk"])
-        path.parent.mkdir(parents=True, exist_ok=True)
-        path.write_bytes(target.encode(chunk))
+        for to, chunk in filled(task_of(text, source, target, region), sources, target):
+            path = target.path(to["chunk"])
+            path.parent.mkdir(parents=True, exist_ok=True)
+            path.write_bytes(target.encode(chunk))
+    return sources.decoded
 
 
 TYPES = [
@@ -541,13 +542,13 @@ def lines(chunkplan, generator, moves):
             fewer = region.count(target) - 1
             for text in plan_of(chunkplan, source, target, *asked):
                 line = json.loads(text)
-                yield text, line_of(text, source, target, region) == line
+                yield text, task_of(text, source, target, region).line == line
                 for edited in edits(line):
                     if edited == {**line, "of": fewer} and line["number"] < fewer:  # of a plan of a box of chunks, as far as a line tells
                         continue
-                    yield json.dumps(edited), is_refused(lambda: line_of(json.dumps(edited), source, target, region), "line")
+                    yield json.dumps(edited), is_refused(lambda: task_of(json.dumps(edited), source, target, region), "line")
                 for end in range(len(text) - 1):
-                    yield text[:end], is_refused(lambda: line_of(text[:end], source, target, region), "no line of a plan")
+                    yield text[:end], is_refused(lambda: task_of(text[:end], source, target, region), "no line of a plan")
             told = tool("copy_chunks.py", *ends, *words, input=json.dumps({**line, "whole": not line["whole"]}) + "\n")
             yield "the worker", (told.returncode, told.stdout, sorted(path.name for path in ends[1].iterdir())) == (1, "", [".zarray"])
 

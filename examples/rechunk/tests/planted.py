@@ -27,8 +27,8 @@ PLANTED = [
     (
         "a number is said to be done before its chunk is in its place",
         [
-            ("copy_chunks.py", "            record.add(line, mark_of(line, source, target, sources.seen, identities))\n", ""),
-            ("copy_chunks.py", "            for to in filled(", "            record.add(line, None)\n            for to in filled("),
+            ("copy_chunks.py", "            record.add(task, mark_of(task, source, target, sources.seen, identities))\n", ""),
+            ("copy_chunks.py", "            for to, chunk in filled(", "            record.add(task, None)\n            for to, chunk in filled("),
         ],
         "faults.py full_disk",
     ),
@@ -45,12 +45,13 @@ PLANTED = [
     ),
     (
         "what was done is passed over though it isn't stored",
-        [("copy_chunks.py", "        return mark == mark_of(line, self.source, self.target, read, written)\n", "        return True\n")],
+        [("copy_chunks.py", "        return mark == mark_of(task, self.source, self.target, read, written)\n", "        return True\n")],
         "moves.py worker",
     ),
     ("what is unfinished is left", [("copy_chunks.py", "            unfinished.unlink(missing_ok=True)\n", "")], "moves.py worker"),
-    ("a line's boxes are taken as they are", [("copy_chunks.py", "!= region.in_source", "is region.in_source")], "moves.py lines"),
-    ("a box that is left out isn't missed", [("copy_chunks.py", "!= math.prod(given[1])", "> math.prod(given[1])")], "moves.py lines"),
+    ("a line's boxes are taken as they are", [("copy_chunks.py", "self.check(box[0] == index", "self.check(box")], "moves.py lines"),
+    ("a box that is left out isn't missed", [("copy_chunks.py", "count == math.prod(self.buffer)", "count <= math.prod(self.buffer)")], "moves.py lines"),
+    ("a task isn't that of its number", [("copy_chunks.py", "self.check(is_numbered and self.box ==", "self.check(self.box ==")], "two_stages.py lines"),
     ("a key is taken as it is", [("copy_chunks.py", 'named["key"] == array.key(numbers)', 'named["key"] != ""')], "moves.py lines"),
     ("the order F is forgotten", [("stored_arrays.py", 'if metadata["order"] == "C" else dimensions[::-1]', "")], "moves.py kinds"),
     (
@@ -79,15 +80,15 @@ PLANTED = [
     ("a filter is forgotten", [("stored_arrays.py", '*(metadata["filters"] or [])', "*[]")], "moves.py kinds"),
     ("another data type is moved", [("stored_arrays.py", "source.dtype.newbyteorder", "target.dtype.newbyteorder")], "moves.py metadata"),
     ("verify sees only elements all of whose bytes differ", [("verify.py", ".any(axis=1)", ".all(axis=1)")], "moves.py worker"),
-    ("`whole` is taken as it is", [("copy_chunks.py", 'if line["whole"] is not (', 'if line["whole"] is None and (')], "moves.py lines"),
+    ("`whole` is taken as it is", [("copy_chunks.py", 'self.check(to["whole"] is has_all', 'self.check(to["whole"] is not None')], "moves.py lines"),
     (
         "what a chunk holds beside a region is lost",
-        [("copy_chunks.py", '        chunk[...] = target.read(line["to"]["chunk"])\n', "        chunk[...] = 0\n")],
+        [("copy_chunks.py", '        chunk[...] = target.read(to["chunk"])\n', "        chunk[...] = 0\n")],
         "regions.py copies",
     ),
     (
         "a chunk that a crash may lose takes the place of what it keeps",
-        [("copy_chunks.py", ' or not line.get("whole", True)\n', "\n")],
+        [("copy_chunks.py", 'not to["whole"] and not words.no_sync', 'to["shared"] and not words.no_sync')],
         "regions.py faults",
     ),
     ("a region's chunks are counted from the array's first", [("region.py", " + step - first", " + step")], "regions.py copies"),
@@ -142,7 +143,7 @@ PLANTED = [
     ),
     (
         "a line stays done whatever it would read",
-        [("copy_chunks.py", "        return mark == mark_of(line, self.source, self.target, read, written)\n", "        return None not in written\n")],
+        [("copy_chunks.py", "        return mark == mark_of(task, self.source, self.target, read, written)\n", "        return None not in written\n")],
         "lost.py done_files",
     ),
     (
@@ -189,7 +190,7 @@ PLANTED = [
     ),
     (
         "what other lines gave a chunk is lost",
-        [("copy_chunks.py", '        chunk[...] = target.read(piece["chunk"])\n', "        chunk[...] = 0\n")],
+        [("copy_chunks.py", '        chunk[...] = target.read(to["chunk"])\n', "        chunk[...] = 0\n")],
         "by_source.py kinds",
     ),
     (
@@ -216,17 +217,17 @@ PLANTED = [
     ("two workers are alone", [("copy_chunks.py", "    if words.alone:\n", "    if False:\n")], "by_source.py worker"),
     (
         "`whole` of a piece is taken as it is",
-        [("copy_chunks.py", 'if piece["whole"] is not (', 'if piece["whole"] is None and (')],
+        [("copy_chunks.py", 'self.check(to["whole"] is has_all', 'self.check(to["whole"] is not None')],
         "by_source.py lines",
     ),
-    ("a piece that is left out isn't missed", [("copy_chunks.py", "!= math.prod(held[1])", "> math.prod(held[1])")], "by_source.py lines"),
+    ("a piece that is left out isn't missed", [("copy_chunks.py", "count == math.prod(self.buffer)", "count <= math.prod(self.buffer)")], "by_source.py lines"),
     (
         "what was done in one order is done in the other",
         [("copy_chunks.py", 'if line.get("order", "target") == order)', "if order)")],
         "by_source.py worker",
     ),
     ("both stages are the second one", [("two_stages.sh", '--stage "$1"', "--stage 2")], "two_stages.py script"),
-    ("the intermediate array is left", [("two_stages.sh", 'rm -rf "$between" ', "rm -rf ")], "two_stages.py script"),
+    ("the intermediate array is left", [("two_stages.sh", 'rm -rf "$intermediate" ', "rm -rf ")], "two_stages.py script"),
     (
         "what was done under another bound is passed over",
         [("two_stages.sh", "&& ! cmp -s", "&& false && ! cmp -s")],
@@ -234,17 +235,22 @@ PLANTED = [
     ),
     (
         "another intermediate array is taken",
-        [("make_between.py", "if json.loads(path.read_text()) != metadata:", "if False:")],
+        [("make_intermediate.py", "if json.loads(path.read_text()) != metadata:", "if False:")],
         "two_stages.py script",
     ),
     (
         "the intermediate array has another fill value",
-        [("make_between.py", "if source.fill is None else", "if True else")],
-        "two_stages.py kinds",
+        [("make_intermediate.py", "if source.fill is None else", "if True else")],
+        "two_stages.py chosen",
     ),
     (
         "a worker keeps a chunk that it read",
         [("copy_chunks.py", "while self.size > self.most:", "while self.size - elements.nbytes - self.BESIDE > self.most:")],
+        "two_stages.py memory",
+    ),
+    (
+        "a chunk is held while the next line is done",
+        [("copy_chunks.py", "            del chunk  # before the next line takes memory\n", "")],
         "two_stages.py memory",
     ),
     ("the cache has no bound", [("copy_chunks.py", "while self.size > self.most:", "while False:")], "moves.py worker"),

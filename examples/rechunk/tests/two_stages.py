@@ -1,7 +1,7 @@
 #!/usr/bin/env python3
-"""Moves arrays in two stages by the plans of `chunkplan`, and compares with numpy: all elements have to be equal, byte
-by byte, and as many chunks are read as the plan counts. Then an array of 200 MB under a limit of memory that one stage
-exceeds.
+"""Moves arrays by tasks of `chunkplan`, of given numbers of chunks and as it chooses them, in one stage and in two. All elements must
+be what numpy has, byte by byte, and no task holds more elements than its bound. Then it tries what must be refused, a worker
+that is killed, and an array of 200 MB under limits of memory.
 
     two_stages.py CHUNKPLAN [--seed N] [--moves N] [--checks NAME ..]
 
@@ -12,117 +12,288 @@ import json
 import math
 import os
 import pathlib
-import re
 import resource
+import shutil
 import subprocess
 import sys
 import tempfile
+import time
 
+import numcodecs
 import numpy
 import zarr
 
 import moves  # which has the folder of the scripts on the path
-from copy_chunks import Sources, assemble, line_of
+from copy_chunks import done_in, task_of
 from document_of import document_of
-from make_between import counts_of, make, metadata_of
-from moves import FORMAT_3, TYPES, forget_some, is_refused, is_whole, make_2, random_elements, same, shapes, store, tool
-from region import region_between
-from stored_arrays import open_array
+from make_intermediate import counts_of, make, metadata_of
+from moves import FORMAT_3, TYPES, carry_out, edits, forget_some, is_refused, is_whole, make_2, random_elements, same, shapes, store, tool
+from region import grouped, region_between
+from regions import assigned, engine, is_assigned, met, slices, stored
+from stored_arrays import Refused, open_array
 
 if FORMAT_3:
     import format_3
 
-
-def counted(chunkplan, source, target, most):
-    """The counts of a rechunking under a bound, as `make_between.py` asks for them."""
-    os.environ["CHUNKPLAN"] = chunkplan
-    return counts_of(source, target, most)
+WHOLE = (None, None)  # in place of a region
 
 
-def stage_of(chunkplan, source, target, most, stage):
-    """The lines of a stage."""
-    document = json.dumps({**document_of(source, target), "max_elements": most, "stage": stage})
+def lines_of(chunkplan, source, target, asked=WHOLE, **members):
+    """The lines of tasks."""
+    document = json.dumps({**document_of(source, target, *asked), **members})
     planned = subprocess.run([chunkplan], input=document, stdout=subprocess.PIPE, check=True, text=True)
     return planned.stdout.splitlines(True)
 
 
-def carry_out(lines, here, there):
-    """Does the lines as `copy_chunks.py --cache 0` does, in this process. How many chunks were read."""
-    source, target = open_array(here), open_array(there)
-    region = region_between(source, target)
-    sources, chunk = Sources(source, target, region, 0), target.new_chunk()
-    for text in lines:
-        line = line_of(text, source, target, region)
-        assemble(chunk, line, sources, target)
-        path = target.path(line["to"]["chunk"])
-        path.parent.mkdir(parents=True, exist_ok=True)
-        path.write_bytes(target.encode(chunk))
-    return sources.decoded
+def random_region(generator, shape):
+    """A box of an array and its place in the target, or the whole array; and the shape of the target."""
+    if generator.random() < 0.5 or 0 in shape:
+        return WHOLE, shape
+    size = [generator.randint(1, length) for length in shape]
+    at = [generator.randrange(5) for _ in shape]
+    start = [generator.randint(0, length - n) for length, n in zip(shape, size)]
+    return ([start, size], at), [first + n + generator.randrange(4) for first, n in zip(at, size)]
 
 
-def bounds(source, target):
-    """The least number of elements by which two stages can go, and the least by which one does: 0 for an array without
-    elements."""
-    if 0 in source.shape:
-        return 0, 0
-    ends = [math.prod(array.chunk_shape) for array in (source, target)]
-    edges = [min(size, *pair) for size, *pair in zip(source.shape, source.chunk_shape, target.chunk_shape)]
-    return math.prod(edges) + max(ends), sum(ends)
-
-
-def kinds(chunkplan, generator, count):
-    """Arrays of random kinds, so many from each format to each, with chunks missing, under random bounds."""
+def moved_arrays(generator, count):
+    """Yields arrays of random kinds from each format to each, with chunks missing. Each is a folder with a source and a target, what is
+    copied, a function that says whether the target is right, and a text that says what it is."""
     for formats in itertools.product((2, 3) if FORMAT_3 else (2,), repeat=2):
         for number in range(count):
             dtype, fills, name = generator.choice([row for row in TYPES if row[2]])
             dtype, shape, written = numpy.dtype(dtype), shapes(generator), generator.choice(fills)
             fill = numpy.array(written, dtype)[()]
+            asked, target_shape = random_region(generator, shape)
             with tempfile.TemporaryDirectory() as room:
-                here, middle, there = (pathlib.Path(room, end) for end in ("source", "between", "target"))
+                room = pathlib.Path(room)
                 elements = random_elements(generator, shape, dtype)
-                for form, folder, some in zip(formats, (here, there), (elements, None)):
-                    store(generator, form, folder, shape, dtype, name, written, some)
-                elements = forget_some(generator, here, elements, fill)
-                source, target = open_array(here), open_array(there)
-                least, one = bounds(source, target)
-                most = generator.choice([least, max(one - 1, 0), one, generator.randint(least, one), 10**6])
-                what = f"{formats}, move {number} of {dtype}, {shape}, {most} elements"
-                counts = counted(chunkplan, source, target, most)
-                if most < least:
-                    yield f"{what}: by none", counts["between"] is None
-                    continue
-                make(middle, metadata_of(source, counts["between"]))
-                yield f"{what}: the fill value", same(numpy.array(open_array(middle).fill), numpy.array(source.fill))
-                read = [carry_out(stage_of(chunkplan, source, target, most, 1), here, middle)]
-                read.append(carry_out(stage_of(chunkplan, source, target, most, 2), middle, there))
-                yield f"{what}: {read} read", read == [stage["copies"] for stage in counts["stages"]]
-                held = [math.prod(array.chunk_shape) for array in (source, open_array(middle), target)]
-                yield f"{what}: {held} held", 0 in shape or max(held[0], held[2]) + held[1] <= most
-                if formats[1] == 2:
-                    moved = zarr.open_array(str(there), mode="r")[...]
-                else:
-                    moved = format_3.read(there, dtype, fill)
-                yield what, same(elements, numpy.asarray(moved))
+                store(generator, formats[0], room / "source", shape, dtype, name, written, elements)
+                elements = forget_some(generator, room / "source", elements, fill)
+                held = random_elements(generator, target_shape, dtype)
+                store(generator, formats[1], room / "target", target_shape, dtype, name, written, held)
+                expected = forget_some(generator, room / "target", held, fill)
+                (subset, at) = asked if asked != WHOLE else ([[0] * len(shape), shape], [0] * len(shape))
+                expected[(..., *slices(at, subset[1]))] = elements[(..., *slices(*subset))]
+
+                def is_moved():
+                    if formats[1] == 2:
+                        return same(expected, numpy.asarray(zarr.open_array(str(room / "target"), mode="r")[...]))
+                    return same(expected, numpy.asarray(format_3.read(room / "target", dtype, fill)))
+
+                yield room, asked, is_moved, f"{formats}, move {number} of {dtype}, {shape}, {asked}"
+
+
+def chosen(chunkplan, generator, count):
+    """The stages that are chosen under random bounds."""
+    os.environ["CHUNKPLAN"] = chunkplan
+    for room, asked, is_moved, what in moved_arrays(generator, count):
+        here, middle, there = (room / end for end in ("source", "intermediate", "target"))
+        source, target = open_array(here), open_array(there)
+        region = region_between(source, target, *asked)
+        least = sum(sorted([math.prod(target.chunk_shape)] * 2 + [math.prod(source.chunk_shape)])[1:])
+        most = generator.choice([0, least // 2, least, generator.randint(least // 3, 2 * least), 10**6])
+        what = f"{what}, {most} elements"
+        try:
+            stages = counts_of(source, target, most, *asked)["stages"]
+        except Refused as error:
+            yield f"{what}: {error}", "raise it" in str(error) and most < 2 * max(math.prod(end.chunk_shape) for end in (source, target))
+            continue
+        parts, ends = [asked], [here, there]
+        if len(stages) == 2:
+            make(middle, metadata_of(source, region.shape, stages[0]["intermediate"]))
+            none = [0] * len(region.shape)
+            parts = [(asked[0], none if asked[0] else None), ([none, region.shape], region.at)]
+            ends = [here, middle, there]
+        for number, (part, pair, stage) in enumerate(zip(parts, itertools.pairwise(ends), stages), 1):
+            lines = lines_of(chunkplan, source, target, asked, max_elements=most, stage=number)
+            read = carry_out(lines, *pair, *part, most=0)
+            yield f"{what}: stage {number} reads {read}", (read, len(lines)) == (stage["chunks_read"], stage["tasks"])
+            tasks, arrays = [json.loads(line) for line in lines], [*map(open_array, pair)]
+            held = max([math.prod(task["buffer"]) for task in tasks], default=0)
+            chunk = max(math.prod(array.chunk_shape) for array in arrays)
+            yield f"{what}: stage {number} holds {held} and {chunk}", not tasks or held + chunk <= most and held == stage["largest_task"]
+            groups = grouped(arrays[1], stage["task_chunks"])
+            yield f"{what}: stage {number} has groups", all(task_of(line, *arrays, region_between(*arrays, *part), groups) for line in lines)
+        yield what, is_moved()
+
+
+def given(chunkplan, generator, count):
+    """Tasks of random numbers of chunks, of the target and of the source, in any order."""
+    for room, asked, is_moved, what in moved_arrays(generator, count):
+        source, target = open_array(room / "source"), open_array(room / "target")
+        each, members = [generator.randint(1, 4) for _ in source.shape], {}
+        if asked == WHOLE and generator.random() < 0.5:
+            members["order"] = "source"
+        lines = lines_of(chunkplan, source, target, asked, task_chunks=each, **members)
+        generator.shuffle(lines)
+        read = carry_out(lines, room / "source", room / "target", *asked, most=0)
+        yield f"{what}, {each} {members}: {read} read", read == sum(len(json.loads(line)["from"]) for line in lines)
+        yield f"{what}, {each} {members}", is_moved()
+
+
+def lines(chunkplan, generator, count):
+    """Each line of tasks with one thing changed, and each cut off."""
+    with tempfile.TemporaryDirectory() as room:
+        ends = [pathlib.Path(room, name) for name in ("source", "target")]
+        make_2(ends[0], [12, 9], [5, 4], dtype="<i4")
+        make_2(ends[1], [12, 9], [4, 2], dtype="<i4")
+        source, target = map(open_array, ends)
+        # of the whole array, of a region, and of groups of the source's chunks, whose numbers a line alone doesn't show
+        kinds = [(WHOLE, [2, 3], {}), (([[1, 1], [9, 7]], [2, 0]), [2, 2], {}), (WHOLE, [1, 2], {"order": "source"})]
+        for asked, each, members in kinds:
+            region, groups = region_between(source, target, *asked), None if members else grouped(target, each)
+            for text in lines_of(chunkplan, source, target, asked, task_chunks=each, **members):
+                line = json.loads(text)
+                yield text, task_of(text, source, target, region, groups).line == line
+                for edited in edits(line):
+                    if groups is None and all(edited.get(name) == line[name] for name in ("buffer", "from", "to")):
+                        continue  # a number alone
+                    told = json.dumps(edited)
+                    yield told, is_refused(lambda: task_of(told, source, target, region, groups), "line")
+                for end in range(len(text) - 1):
+                    yield text[:end], is_refused(lambda: task_of(text[:end], source, target, region, groups), "no line of a plan")
+
+
+def worker(chunkplan, generator, count):
+    """What the worker writes, refuses, keeps and passes over: layers of an array of 60 x 50 elements go to blocks by tasks."""
+    with tempfile.TemporaryDirectory() as room:
+        room = pathlib.Path(room)
+        ends = [room / "source", room / "target"]
+        elements = numpy.arange(3000, dtype="<i4").reshape(60, 50)
+        make_2(ends[0], [60, 50], [8, 50], dtype="<i4")[...] = elements
+        make_2(ends[1], [60, 50], [17, 13], dtype=">i4", fill_value=None, order="F", dimension_separator="/")
+
+        def is_moved():
+            return numpy.array_equal(zarr.open_array(str(ends[1]), mode="r")[...], elements)
+
+        def by_tasks(*words):
+            document = tool("document_of.py", *ends, *words, check=True).stdout
+            return subprocess.run([chunkplan], input=document, stdout=subprocess.PIPE, check=True, text=True).stdout.splitlines(True)
+
+        groups = ["--task-chunks", "2,3"]
+        plan = by_tasks(*groups)
+        words = [*ends, *groups, "--done", room / "done", "--resume", room / "done", "--verbose"]
+        first = tool("copy_chunks.py", *words, input="".join([plan[3], plan[0]]))
+        yield "two tasks", first.stdout == "".join(f'{{"number": {number}, "of": 4, "order": "task"}}\n' for number in (3, 0))
+        yield "each chunk is read once a task", "8 chunks written, 9 read" in first.stderr
+        told = tool("check_done.py", ends[1], room / "done", *groups)
+        yield "two are missing", (told.returncode, told.stderr) == (1, "check_done.py: 2 of 4 tasks weren't done: 0/3, 2/0\n")
+        told = tool("check_done.py", ends[1], room / "done", "--task-chunks", "2,2")
+        yield "the same number of other tasks", told.returncode == 1
+        told = tool("check_done.py", ends[1], room / "done", "--task-chunks", "1,3")
+        yield "other tasks", told.returncode == 1 and "lines of a plan of another length than 8" in told.stderr
+        told = tool("check_done.py", ends[1], room / "done")
+        yield "no line of one chunk was done", told.returncode == 1 and "16 of 16 chunks weren't done" in told.stderr
+        told = tool("copy_chunks.py", *ends, "--task-chunks", "2,2", input=plan[1])
+        yield "a task of another group", told.returncode == 1 and "it isn't the task of its number" in told.stderr
+        for wrong in ("2", "0,1"):
+            told = tool("copy_chunks.py", *ends, "--task-chunks", wrong, input=plan[1])
+            yield f"tasks of {wrong}", told.returncode == 1 and "in an array of 2 dimensions" in told.stderr
+        second = tool("copy_chunks.py", *words, input="".join(reversed(plan)))
+        yield "the others", is_whole((first.stdout + second.stdout).splitlines()) and "8 chunks written" in second.stderr
+        yield "all elements", is_moved()
+        (ends[1] / "2/1").unlink()
+        told = tool("check_done.py", ends[1], room / "done", *groups)
+        yield "a chunk is lost", (told.returncode, told.stderr) == (1, "check_done.py: 1 of 4 tasks weren't done: 2/0\n")
+        told = tool("copy_chunks.py", *words, input="".join(plan))
+        yield "its task is done again", told.returncode == 0 and "6 chunks written" in told.stderr and is_moved()
+        told = tool("check_done.py", ends[1], room / "done", *groups)
+        yield "all were done", (told.returncode, told.stdout) == (0, "all 4 tasks were done\n")
+        (ends[0] / "3.0").write_bytes(b"no")
+        told = tool("copy_chunks.py", *words, input="".join(plan))
+        yield "a broken source", told.returncode == 1 and "chunk 3.0 of" in told.stderr and is_moved()
+        zarr.open_array(str(ends[0]))[24:32] = elements[24:32]
+        # by engines
+        for name in ("xargs_shares", *(["parallel_pipe"] if shutil.which("parallel") else [])):
+            shutil.rmtree(ends[1] / "0")
+            yield f"by {name}", engine(name)(chunkplan, *ends, room, groups) and is_moved()
+        # by groups of the source's chunks, several tasks write one chunk of the target
+        plan = by_tasks("--by-source", "--task-chunks", "3,1")
+        make_2(ends[1], [60, 50], [17, 13], dtype=">i4", fill_value=None, order="F", dimension_separator="/")
+        told = tool("copy_chunks.py", *ends, input="".join(plan))
+        yield "refused where others may write", told.returncode == 1 and "other lines write chunk 1/0, too" in told.stderr
+        words = [*ends, "--alone", "--done", room / "alone", "--resume", room / "alone"]
+        told = [tool("copy_chunks.py", *words, input="".join(some)) for some in (plan[1:], plan)]
+        yield "alone", all(one.returncode == 0 for one in told) and len(told[1].stdout.splitlines()) == 1 and is_moved()
+        told = tool("check_done.py", ends[1], room / "alone", "--by-source", ends[0], "--task-chunks", "3,1")
+        yield "all of them", (told.returncode, told.stdout) == (0, "all 3 tasks were done\n")
+        (ends[1] / "1/1").unlink()
+        told = tool("copy_chunks.py", *words, input="".join(plan))
+        yield "a chunk of several tasks is lost", told.returncode == 1 and f"chunk 1/1 of {ends[1]} was lost" in told.stderr
+
+
+def beside(chunkplan, generator, count):
+    """A region by tasks, beside zarr-python's own assignment: what chunks hold besides stays, and other chunks keep their bytes."""
+    with tempfile.TemporaryDirectory() as room:
+        room = pathlib.Path(room)
+        source, target = room / "source", room / "target"
+        make_2(source, [60, 50], [8, 50], dtype="<i4")[...] = numpy.arange(3000).reshape(60, 50)
+        array = make_2(target, [70, 80], [17, 13], dtype=">i4", fill_value=-1, order="F", dimension_separator="/")
+        array[...] = -2 - numpy.arange(5600).reshape(70, 80)
+        shutil.rmtree(target / "1")  # of some chunks no element is stored
+        subset, at = [[5, 6], [20, 31]], [33, 29]
+        copied, before = assigned(source, target, subset, at), stored(target)
+        words = ["--subset", "5,6", "20,31", "--at", "33,29"]
+        yield "by an engine", engine("xargs_shares")(chunkplan, source, target, room, [*words, "--task-chunks", "2,2"])
+        yield "its elements", is_assigned(target, copied, before, met(target, subset, at))
+        environment = {**os.environ, "CHUNKPLAN": chunkplan, "PYTHON": sys.executable, "REGION": " ".join(words)}
+        # as it was before
+        shutil.rmtree(target)
+        array = make_2(target, [70, 80], [17, 13], dtype=">i4", fill_value=-1, order="F", dimension_separator="/")
+        array[...] = -2 - numpy.arange(5600).reshape(70, 80)
+        shutil.rmtree(target / "1")
+        before = stored(target)
+        for most in (700, 10**6):
+            told = tool("two_stages.sh", source, target, room / f"room {most}", most, env=environment)
+            yield f"by {most} elements", told.returncode == 0 and is_assigned(target, copied, before, met(target, subset, at))
+
+
+def killed(chunkplan, generator, count):
+    """A worker that is killed at a random moment, and one that goes on: each task that was said to be done stays done."""
+    for number, by_source in itertools.product(range(3), (False, True)):
+        with tempfile.TemporaryDirectory() as room:
+            room = pathlib.Path(room)
+            ends = [room / "source", room / "target"]
+            elements = numpy.arange(12000, dtype="<i4").reshape(120, 100) + 1
+            make_2(ends[0], [120, 100], [7, 9], dtype="<i4", compressor=numcodecs.Zlib())[...] = elements
+            make_2(ends[1], [120, 100], [17, 20], dtype="<i4", fill_value=0, compressor=numcodecs.Zlib())
+            members = {"order": "source"} if by_source else {}
+            plan = lines_of(chunkplan, *map(open_array, ends), task_chunks=[2, 2], **members)
+            words = [sys.executable, moves.TOOLS / "copy_chunks.py", *ends, "--alone", "--done", room / "done", "--resume", room / "done"]
+            with subprocess.Popen(list(map(str, words)), stdin=subprocess.PIPE, stdout=subprocess.PIPE, text=True) as running:
+                running.stdin.write("".join(plan))
+                running.stdin.close()
+                time.sleep(0.2 + generator.random() / 3)
+                running.kill()
+            got = zarr.open_array(str(ends[1]), mode="r")[...]
+            array = open_array(ends[0 if by_source else 1])
+            region, groups = region_between(*map(open_array, ends)), grouped(array, [2, 2])
+            boxes = [slices(*region.given(region.chunk_at(n, groups), groups)) for n, _ in done_in(room / "done", "task")]
+            yield f"killed {number}: {len(boxes)} of {len(plan)} tasks", all(numpy.array_equal(got[box], elements[box]) for box in boxes)
+            left = subprocess.run(list(map(str, words)), input="".join(plan), capture_output=True, text=True)
+            told = tool("check_done.py", ends[1], room / "done", "--task-chunks", "2,2", *(["--by-source", ends[0]] if by_source else []))
+            moved = numpy.array_equal(zarr.open_array(str(ends[1]), mode="r")[...], elements)
+            yield f"killed {number}: then all", left.returncode == told.returncode == 0 and moved
 
 
 # A planner that removes a chunk before it plans the second stage.
 LOSING = """#!/bin/sh
 document=$(cat)
-case $document in *'"stage": 2'*) rm {between}/c/0/0;; esac
+case $document in *'"stage": 2'*) rm {intermediate}/c/0/0;; esac
 echo "$document" | {chunkplan}
 """
 
 
 def script(chunkplan, generator, count):
-    """What `two_stages.sh` writes, goes on from, removes and refuses: layers of an array of 60 x 50 elements go to
+    """What `two_stages.sh` writes, goes on from, removes and refuses: pairs of rows of an array of 60 x 50 elements go to pairs of
     columns."""
     environment = {**os.environ, "CHUNKPLAN": chunkplan, "PYTHON": sys.executable}
     with tempfile.TemporaryDirectory() as room:
         room = pathlib.Path(room)
-        ends, work, between = [room / "source", room / "target"], room / "room", room / "room" / "between"
+        ends, work, intermediate = [room / "source", room / "target"], room / "room", room / "room" / "intermediate"
         elements = numpy.arange(3000, dtype="<i4").reshape(60, 50)
-        make_2(ends[0], [60, 50], [8, 50], dtype="<i4", fill_value=-1)[...] = elements
-        make_2(ends[1], [60, 50], [60, 7], dtype=">i4", fill_value=None, order="F", dimension_separator="/")
+        make_2(ends[0], [60, 50], [2, 50], dtype="<i4", fill_value=-1)[...] = elements
+        make_2(ends[1], [60, 50], [60, 2], dtype=">i4", fill_value=None, order="F", dimension_separator="/")
 
         def run(most, room=work, **more):
             return tool("two_stages.sh", *ends, room, most, env={**environment, **more})
@@ -130,61 +301,66 @@ def script(chunkplan, generator, count):
         def is_moved():
             return numpy.array_equal(zarr.open_array(str(ends[1]), mode="r")[...], elements)
 
-        told = run(475, room / "other")
-        yield "no shape is small enough", told.returncode == 1 and "for 475 elements: allow more" in told.stderr
-        # 420 and 8 * 7 elements
-        told = tool("document_of.py", *ends, "--max-elements", 700).stdout
+        told = run(239, room / "other")
+        yield "no tasks hold so few", told.returncode == 1 and "`max_elements`: no tasks hold so few elements; raise it" in told.stderr
+        told = tool("document_of.py", *ends, "--max-elements", 400).stdout
         planned = subprocess.run([chunkplan], input=told, capture_output=True, text=True)
-        refused = (planned.returncode, planned.stdout) == (1, "") and "`max_elements`" in planned.stderr
-        yield "one stage holds more", refused
-        # stored as no chunk of 8 x 50 elements
-        whole = (ends[0] / "3.0").read_bytes()
-        (ends[0] / "3.0").write_bytes(b"no")
-        told = run(700)
-        refused = told.returncode == 1 and "chunk 3.0 of" in told.stderr
+        yield "two stages", (planned.returncode, planned.stdout) == (1, "") and "`stage`" in planned.stderr
+        # stored as no chunk of 2 x 50 elements
+        whole = (ends[0] / "13.0").read_bytes()
+        (ends[0] / "13.0").write_bytes(b"no")
+        told = run(400)
+        refused = told.returncode == 1 and "chunk 13.0 of" in told.stderr
         yield "a broken source", refused and not list(ends[1].glob("[0-9]*"))
-        (ends[0] / "3.0").write_bytes(whole)
+        (ends[0] / "13.0").write_bytes(whole)
         done = len((work / "done.1").read_text().splitlines())
-        told = run(701)
-        yield "another bound in its room", told.returncode == 1 and "has another rechunking" in told.stderr
-        told = tool("make_between.py", *ends, between, "--max-elements", 476, env=environment)
+        told = run(401)
+        yield "another bound in its room", told.returncode == 1 and "has another copy" in told.stderr
+        told = tool("make_intermediate.py", *ends, intermediate, "--max-elements", 240, env=environment)
         yield "another intermediate array", told.returncode == 1 and "is another array's" in told.stderr
-        told = run(700)
+        told = run(400)
         lines = (work / "done.1").read_text().splitlines()
         yield "it goes on", told.returncode == 0 and is_moved() and 0 < done < len(lines) and is_whole(lines)
-        read = re.search(r"two stages read \d+ chunks; one reads 64, and holds more", told.stdout)
-        yield "it tells what is read", read is not None
-        yield "what is left", not between.exists() and not (ends[1] / ".unfinished").exists()
-        told = run(700)
-        yield "once more", told.returncode == 0 and told.stdout == "all 8 chunks were done\n" and not between.exists()
+        counts, *checked = told.stdout.splitlines()
+        tasks = [stage["tasks"] for stage in json.loads(counts)["stages"]]
+        yield "it tells the counts", len(tasks) == 2 and checked == [f"all {count} tasks were done" for count in tasks]
+        yield "what is left", not intermediate.exists() and not (ends[1] / ".unfinished").exists()
+        told = run(400)
+        yield "once more", told.returncode == 0 and told.stdout == f"{checked[1]}\n" and not intermediate.exists()
         (ends[1] / "0/3").unlink()
-        yield "a chunk was lost", run(700).returncode == 0 and is_moved() and not between.exists()
+        yield "a chunk was lost", run(400).returncode == 0 and is_moved() and not intermediate.exists()
         zarr.open_array(str(ends[1]))[3, 3] = 7
-        yield "a chunk was changed", run(700).returncode == 0 and is_moved() and not between.exists()
+        yield "a chunk was changed", run(400).returncode == 0 and is_moved() and not intermediate.exists()
         (work / "finished").unlink()  # as where a run was killed before its end
         elements[5] = 7
         zarr.open_array(str(ends[0]))[5] = 7
-        yield "the source was changed", run(700).returncode == 0 and is_moved()
+        yield "the source was changed", run(400).returncode == 0 and is_moved()
         # an intermediate chunk is lost when the second stage begins
-        (room / "losing").write_text(LOSING.format(between=between, chunkplan=chunkplan))
+        (room / "losing").write_text(LOSING.format(intermediate=intermediate, chunkplan=chunkplan))
         (room / "losing").chmod(0o755)
         zarr.open_array(str(ends[1]))[3, 3] = 7
-        told = run(700, CHUNKPLAN=str(room / "losing"))
-        yield "an intermediate chunk was lost", told.returncode == 1 and f"of {between} isn't stored" in told.stderr
-        yield "it is made again", run(700).returncode == 0 and is_moved()
-        yield "where one stage would do", run(10**6, room / "more").returncode == 0 and is_moved()
-        make_2(room / "texts", [4], [2], dtype="<U3")
-        told = tool("make_between.py", room / "texts", room / "texts", between, "--max-elements", 9, env=environment)
+        told = run(400, CHUNKPLAN=str(room / "losing"))
+        yield "an intermediate chunk was lost", told.returncode == 1 and f"of {intermediate} isn't stored" in told.stderr
+        yield "it is made again", run(400).returncode == 0 and is_moved()
+        told = run(10**6, room / "more")
+        one = len(json.loads(told.stdout.splitlines()[0])["stages"]) == 1
+        yield "where one stage costs less", told.returncode == 0 and one and is_moved() and not (room / "more" / "intermediate").exists()
+        told = run(10**6, room / "more")
+        yield "one stage once more", (told.returncode, told.stdout) == (0, "all 1 tasks were done\n")
+        make_2(room / "texts", [8, 8], [1, 8], dtype="<U3")
+        told = tool("make_intermediate.py", room / "texts", room / "texts", intermediate, "--max-elements", 16, env=environment)
         yield "one folder", told.returncode == 1 and "one folder" in told.stderr
-        make_2(room / "others", [4], [3], dtype="<U3")
-        yield "no type of format 3", is_refused(lambda: metadata_of(open_array(room / "texts"), [2]), "data type str96")
-        told = tool("make_between.py", room / "texts", room / "others", between, "--max-elements", 9, env=environment)
-        yield "the program", told.returncode == 1 and "data type str96" in told.stderr and not between.exists()
+        make_2(room / "others", [8, 8], [8, 1], dtype="<U3")
+        yield "no type of format 3", is_refused(lambda: metadata_of(open_array(room / "texts"), [8, 8], [2, 2]), "data type str96")
+        told = tool("make_intermediate.py", room / "texts", room / "others", intermediate, "--max-elements", 16, env=environment)
+        yield "the program", told.returncode == 1 and "data type str96" in told.stderr and not intermediate.exists()
+        told = tool("make_intermediate.py", room / "texts", room / "others", intermediate, "--max-elements", 99, env=environment)
+        yield "none is needed", told.returncode == 0 and not intermediate.exists()
 
 
-# Of elements of four bytes: 200 MB, in chunks of 100 MB.
-SHAPE, SOURCE, TARGET = [5000, 10000], [2500, 10000], [5000, 5000]
-ONE_STAGE, TWO_STAGES = 50_000_000, 37_500_000  # elements that a worker holds at most
+# 200 MB in elements of four bytes, and chunks of 10 MB.
+SHAPE, SOURCE, TARGET = [5000, 10000], [250, 10000], [5000, 500]
+FEWER, MORE = 8_000_000, 20_000_000  # elements that a worker holds at most
 # Runs a script, and tells on standard error how many kilobytes it may write to, and how many it had in memory at most.
 TELLING = """
 import pathlib, re, runpy, sys
@@ -198,7 +374,7 @@ finally:
 """
 
 
-def worker(source, target, lines):
+def measured(source, target, lines):
     """Whether a worker did some lines, keeping no chunk, and the two numbers of kilobytes."""
     words = [moves.TOOLS / "copy_chunks.py", source, target, "--cache", "0", "--no-sync"]
     command = [sys.executable, "-c", TELLING, *map(str, words)]
@@ -213,57 +389,58 @@ def elements_at(row, rows):
 
 
 def memory(chunkplan, generator, count):
-    """An array of 200 MB, whose chunks of 100 MB have to be cut both ways. One stage holds two of them. Two stages hold
-    one of them and one of 50 MB, under a limit between the two: one stage ends there, and two stages are right."""
+    """An array of 200 MB, whose rows become columns under two bounds. The worker holds what the counts say: the largest buffer and one
+    chunk. A line of one chunk of the target holds this chunk and one of the source. Under a limit between both bounds the larger tasks
+    end without memory, and the smaller ones are right."""
     with tempfile.TemporaryDirectory() as room:
         room = pathlib.Path(room)
-        here, there, between = (room / name for name in ("source", "target", "between"))
+        here, there, middle = (room / name for name in ("source", "target", "intermediate"))
         few = [room / "few", room / "fewer"]
         for folder, edges in zip(few, ([2], [4])):
             make_2(folder, [4], edges, dtype="<f4", compressor=None)
-        small, limit, least = worker(*few, moves.plan_of(chunkplan, *map(open_array, few)))
+        small, limit, least = measured(*few, moves.plan_of(chunkplan, *map(open_array, few)))
         yield "the worker alone", small
         array = make_2(here, SHAPE, SOURCE, dtype="<f4", compressor=None)
         for row in range(0, SHAPE[0], SOURCE[0]):
             array[row : row + SOURCE[0]] = elements_at(row, SOURCE[0])
         make_2(there, SHAPE, TARGET, dtype="<f4", compressor=None)
         source, target = open_array(here), open_array(there)
-        counts = counted(chunkplan, source, target, TWO_STAGES)
-        yield f"what fits: {counts}", counts["between"] == [2500, 5000] and not counts["fits"]
-        fits = [counted(chunkplan, source, target, most)["fits"] for most in (ONE_STAGE - 1, ONE_STAGE)]
-        yield f"one stage fits: {fits}", fits == [False, True]
-        held = []  # kilobytes in memory, beside what the worker has anyway
-        one = moves.plan_of(chunkplan, source, target)
-        done, _, most = worker(here, there, one)
-        held.append(most - least)
-        yield "one stage, without a limit", done
-        make(between, metadata_of(source, counts["between"]))
-        for stage, ends in ((1, (here, between)), (2, (between, there))):
-            done, _, most = worker(*ends, stage_of(chunkplan, source, target, TWO_STAGES, stage))
-            held.append(most - least)
-            yield f"stage {stage}, without a limit", done
-        # four bytes an element, and 8 MB more or less, since what Python has besides varies
-        beside = [1024 * kilobytes - 4 * n for kilobytes, n in zip(held, [ONE_STAGE, TWO_STAGES, TWO_STAGES])]
-        told = ", ".join(f"{1024 * kilobytes / 4e6:.1f}" for kilobytes in held)
-        yield f"millions of elements held: {told}", all(abs(more) <= 8e6 for more in beside)
-        for path in there.glob("[0-9]*"):
-            path.unlink()
-        limit = limit * 1024 + 4 * (ONE_STAGE + TWO_STAGES) // 2
+        os.environ["CHUNKPLAN"] = chunkplan
+        runs = [("lines of one chunk", (here, there), moves.plan_of(chunkplan, source, target)[:3], 5_000_000)]
+        for most in (FEWER, MORE):
+            stages = counts_of(source, target, most)["stages"]
+            folders = [here, *(room / f"{middle.name}.{most}" for _ in stages[1:]), there]
+            for number, (stage, pair) in enumerate(zip(stages, itertools.pairwise(folders)), 1):
+                if stage["intermediate"]:
+                    make(pair[1], metadata_of(source, SHAPE, stage["intermediate"]))
+                chunk = max(math.prod(open_array(end).chunk_shape) for end in pair)
+                lines = lines_of(chunkplan, source, target, max_elements=most, stage=number)
+                runs.append((f"{most} elements, stage {number} of {len(stages)}", pair, lines, stage["largest_task"] + chunk))
+                yield f"{runs[-1][0]}: {runs[-1][-1]}", runs[-1][-1] <= most
+        yield "two stages and more", len(runs) >= 4
+        for what, pair, lines, held in runs:
+            lines = [json.dumps({**json.loads(line), "number": n, "of": len(lines)}) + "\n" for n, line in enumerate(lines)]
+            done, _, peak = measured(*pair, lines)
+            # four bytes an element, and 8 MB more or less, since what Python has besides varies
+            beside = 1024 * (peak - least) - 4 * held
+            yield f"{what}: {1024 * (peak - least) / 4e6:.1f} of {held / 1e6} million elements", done and abs(beside) <= 8e6
+        limit = limit * 1024 + 4 * (FEWER + MORE) // 2
 
         def limited():
             resource.setrlimit(resource.RLIMIT_DATA, (limit, limit))
 
-        told = tool("copy_chunks.py", here, there, "--cache", 0, "--no-sync", input="".join(one), preexec_fn=limited)
+        for path in there.glob("[0-9]*"):
+            path.unlink()
+        environment = {**os.environ, "PYTHON": sys.executable}
+        told = tool("two_stages.sh", here, there, room / "more", MORE, env=environment, preexec_fn=limited)
         out_of_memory = "MemoryError" in told.stderr or "Unable to allocate" in told.stderr
-        yield "one stage, under the limit", told.returncode == 1 and out_of_memory and not list(there.glob("[0-9]*"))
-        environment = {**os.environ, "CHUNKPLAN": chunkplan, "PYTHON": sys.executable}
-        words = here, there, room / "room", TWO_STAGES
-        told = tool("two_stages.sh", *words, env=environment, preexec_fn=limited)
-        yield "two stages, under the limit", told.returncode == 0 and not (room / "room" / "between").exists()
+        yield "more than the limit", told.returncode == 1 and out_of_memory
+        told = tool("two_stages.sh", here, there, room / "room", FEWER, env=environment, preexec_fn=limited)
+        yield "less than the limit", told.returncode == 0 and not (room / "room" / "intermediate").exists()
         moved = zarr.open_array(str(there), mode="r")
         rows = range(0, SHAPE[0], 500)
         yield "all elements", all(numpy.array_equal(moved[row : row + 500], elements_at(row, 500)) for row in rows)
 
 
 if __name__ == "__main__":
-    moves.main([kinds, script, memory])
+    moves.main([chosen, given, lines, worker, beside, killed, script, memory])

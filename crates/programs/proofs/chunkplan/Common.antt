@@ -6,23 +6,23 @@ pub use Rattle.documents.specs.declared.document_fault.DocumentFault.{DocumentFa
 pub use Rattle.json.specs.Print.{begins, ends, print, separator}
 pub use Rattle.json.specs.Token.{Token, begin_array, begin_object, boolean, end_array, end_object, key, number, string}
 pub use Rattle.json.specs.Tree.{items_tokens, json_tokens, members_tokens}
-pub use Rattle.programs.specs.chunkplan.CountsLine.{IsCountsLine, IsStagesLine, between_text, flag_text}
-pub use Rattle.programs.specs.chunkplan.Document.{AsksForLinesOfCopy, Copying, Document, HasGroups, RangesWanted, Task, Wanted, box_in, by_source}
-pub use Rattle.programs.specs.chunkplan.Document.{copy_to, copying_in, copying_of, counts_wanted, document_in, document_of, flag_in, form_in}
+pub use Rattle.programs.specs.chunkplan.CountsLine.{IsCountsLine, IsStagesLine, flag_text, shape_text}
+pub use Rattle.programs.specs.chunkplan.Document.{AsksForLinesOfCopy, Copying, Document, HasGroups, RangesWanted, Task, TaskChoice, Wanted, box_in, by_source, by_tasks}
+pub use Rattle.programs.specs.chunkplan.Document.{choice_by, choice_in, choice_of, copy_to, copying_in, copying_of, counts_wanted, document_in, document_of, flag_in, form_in}
 pub use Rattle.programs.specs.chunkplan.Document.{into_chunks, line_order_in, lines_wanted, object_of, of_array, ranges_asked_of, ranges_by}
-pub use Rattle.programs.specs.chunkplan.Document.{ranges_in, read_of, rechunking_by, rechunking_in, rechunking_within, region_in, resize_to}
-pub use Rattle.programs.specs.chunkplan.Document.{target_stored_in, task_by, task_in, task_of, to_region, wanted_in, wanted_of, within_bound}
+pub use Rattle.programs.specs.chunkplan.Document.{ranges_in, read_of, rechunking_by, rechunking_in, rechunking_with, region_in, region_with, resize_to}
+pub use Rattle.programs.specs.chunkplan.Document.{RegionWanted, cheapest_in, target_stored_in, task_by, task_in, task_of, to_region, wanted_in, wanted_of}
 pub use Rattle.programs.specs.chunkplan.Keys.{AreForeign, AreKeys, AsStoreKey, HasKeysBehind, IsFirstNoText, IsKeyOfTarget, IsMissingText, TellsThere}
 pub use Rattle.programs.specs.chunkplan.Keys.{behind, behind_first, closed_length, empty_line, first_line, foreign_json, foreign_lines, here}
 pub use Rattle.programs.specs.chunkplan.Keys.{key_line, no_line, unended}
 pub use Rattle.programs.specs.chunkplan.Line.{box_json, change_line, chunk_json, count_json, end_members, group_json, group_line, line_of, lines_from}
-pub use Rattle.programs.specs.chunkplan.Line.{numbers_items, numbers_json, part_json, piece_json, pieces_items, place_name, range_items, resize_lines}
+pub use Rattle.programs.specs.chunkplan.Line.{numbers_items, numbers_json, overlap_json, part_json, piece_json, items_of, place_name, task_json, task_line, task_lines, range_items, resize_lines}
 pub use Rattle.programs.specs.chunkplan.MemberRules.{Fit, Rule, excludes, is_broken, needs, rule_of}
 pub use Rattle.programs.specs.chunkplan.RunFault.{is_not_json, of_create, of_document, of_refusal, of_region, of_stream, of_target}
 pub use Rattle.programs.specs.chunkplan.seen.Added.{Adds}
 pub use Rattle.programs.specs.chunkplan.seen.Digits.{AreDigits, HasText, is_text, no_text, value, value_with}
 pub use Rattle.programs.specs.chunkplan.seen.Pieces.{begin_of_line, begin_tokens, comma_before, end_of_line, end_tokens, piece_text, ranges_tokens}
-pub use Rattle.programs.specs.chunkplan.seen.Pieces.{text_as, whole_tokens}
+pub use Rattle.programs.specs.chunkplan.seen.Pieces.{begin_of_task, begin_task_tokens, end_of_task, item_text, middle_of_task, middle_task_tokens, text_as, whole_if_tokens, whole_tokens}
 pub use Rattle.programs.specs.declared.chunkplan.line.Order.{Order}
 pub use Rattle.programs.specs.declared.chunkplan.line.Order.TheVariants.{Source, Target}
 pub use Rattle.programs.specs.declared.chunkplan.run_fault.RunFault.{RunFault}
@@ -83,5 +83,6 @@ pub use Rattle.zarrs_chunk_plan.specs.seen.Changes.{all_changes, changes_to_come
 pub use Rattle.zarrs_chunk_plan.specs.seen.Copies.{IsAboutCopies, IsCopiesFault, all_targets, first_of, region_of, target_of, targets_to_come}
 pub use Rattle.zarrs_chunk_plan.specs.seen.Parts.{ArePartsToCome, HasKeys, IsAbout, all_chunks, chunks_to_come}
 pub use Rattle.zarrs_chunk_plan.specs.seen.StoredChunks.{Knows, is_stored}
+pub use Rattle.zarrs_chunk_tasks.specs.Tasks.{TaskPlan}
 pub use Rattle.zarrs_chunks.specs.declared.chunk_grid.named.ChunkGrid.{ChunkGrid}
 pub use Rattle.zarrs_chunks.specs.seen.Grids.{chained_in, grid_in, kind_in}

@@ -1,5 +1,5 @@
 -- Numbers as lists of decimal digits: what is pushed onto them, and their numerals.
-use Rattle.programs.proofs.chunkplan.Common.{◌≡◌, ◌≢◌, ◌⊎◌, ◌∙◌, ℕ, zero, suc, ◌+◌, ◌*◌, ◌/◌, ◌%◌, ◌<◌, List, [], ◌∷◌, ◌++◌, get_or, length}
+use Rattle.programs.proofs.chunkplan.Common.{◌≡◌, ◌≢◌, ◌⊎◌, ◌∙◌, ℕ, zero, suc, ◌+◌, ◌*◌, ◌<◌, ◌≤◌, List, [], ◌∷◌, ◌++◌, get_or, length}
 use Rattle.programs.proofs.chunkplan.Common.{length-append, refl, ap, sym, ⊎_elim, arith, product, AreDigits, HasText, is_text, no_text, value_with}
 use Rattle.std.proofs.Math.Nat.{mul_assoc, mul_comm}
 use Rattle.zarrs_chunk_keys.specs.Numeral.{IsNumeral, digit, more_digits, one_digit}
@@ -12,18 +12,23 @@ pub digits_pushed : (digits : List ℕ) (one : ℕ) → AreDigits digits → one
 digits_pushed [] one are below = (below, tt)
 digits_pushed (d ∷ digits) one are below = (are.0, digits_pushed digits one are.1 below)
 
-times_split : (factor one tens : ℕ) → factor * (one + 10 * tens) ≡ one * factor + 10 * (factor * tens)
+pub times_split : (factor one tens : ℕ) → factor * (one + 10 * tens) ≡ one * factor + 10 * (factor * tens)
 times_split zero one tens = omega arith
 times_split (suc factor) one tens = let rest = times_split factor one tens in omega arith
 
+-- a digit times a factor is no more than nine times the factor
+pub nine_times : (one factor : ℕ) → one < 10 → one * factor ≤ 9 * factor
+nine_times one zero below = omega arith
+nine_times one (suc factor) below = let rest = nine_times one factor below in omega arith
+
 -- a digit of a number that is multiplied, with what is carried from the digits behind it
-pub carried : (more : List ℕ) (carry factor one tens sum total : ℕ) → sum ≡ carry + one * factor
+pub carried : (more : List ℕ) (carry factor one tens last next total : ℕ) → last + 10 * next ≡ carry + one * factor
     → value_with more (carry + factor * (one + 10 * tens)) ≡ total
-    → value_with (more ++ (sum % 10) ∷ []) (sum / 10 + factor * tens) ≡ total
-carried more carry factor one tens sum total is value_is =
+    → value_with (more ++ last ∷ []) (next + factor * tens) ≡ total
+carried more carry factor one tens last next total is value_is =
     let split = times_split factor one tens in
-    let same : sum % 10 + 10 * (sum / 10 + factor * tens) ≡ carry + factor * (one + 10 * tens) = omega arith in
-    value_pushed more (sum % 10) (sum / 10 + factor * tens) ∙ ap (value_with more) same ∙ value_is
+    let same : last + 10 * (next + factor * tens) ≡ carry + factor * (one + 10 * tens) = omega arith in
+    value_pushed more last (next + factor * tens) ∙ ap (value_with more) same ∙ value_is
 
 pub product_pushed : (factors : List ℕ) (last : ℕ) → product (factors ++ last ∷ []) ≡ last * product factors
 product_pushed [] last = omega arith

@@ -3,9 +3,9 @@ use Rattle.programs.proofs.chunkplan.Common.{◌≡◌, ◌∙◌, ℕ, zero, su
 use Rattle.programs.proofs.chunkplan.Common.{append_assoc, ap, ap₂, arith, refl, sym, ⊎_elim, fold, begins, ends, print, separator, Token}
 use Rattle.programs.proofs.chunkplan.Common.{begin_array, begin_object, boolean, end_array, end_object, key, string, items_tokens, json_tokens}
 use Rattle.programs.proofs.chunkplan.Common.{members_tokens, cases_lt, le-leb, lt-leb, Part, shifted, RangesWanted, box_json, chunk_json, count_json}
-use Rattle.programs.proofs.chunkplan.Common.{end_members, group_json, group_line, lines_from, numbers_json, part_json, piece_json, pieces_items}
-use Rattle.programs.proofs.chunkplan.Common.{place_name, begin_of_line, begin_tokens, comma_before, end_of_line, end_tokens, piece_text}
-use Rattle.programs.proofs.chunkplan.Common.{ranges_tokens, whole_tokens, unbroken, Order, Source, Target}
+use Rattle.programs.proofs.chunkplan.Common.{end_members, group_json, group_line, lines_from, numbers_json, overlap_json, part_json, piece_json, items_of}
+use Rattle.programs.proofs.chunkplan.Common.{place_name, begin_of_line, begin_tokens, comma_before, end_of_line, end_tokens, item_text, piece_text, begin_of_task, begin_task_tokens, end_of_task, middle_of_task}
+use Rattle.programs.proofs.chunkplan.Common.{ranges_tokens, middle_task_tokens, task_json, task_line, whole_if_tokens, whole_tokens, unbroken, Order, Source, Target, TaskPlan}
 use Rattle.std.proofs.lemmas.Grind.{fold-append}
 use Rattle.json.specs.Json.{Json, null, boolean as boolean_json, number, string as string_json, array, object, Items, no_items, item, Members}
 use Rattle.json.specs.Json.{no_members, member}
@@ -99,10 +99,10 @@ comma_stays (Some zero) text = refl
 comma_stays (Some (suc n)) text = unbroken-append [] text 44 (omega arith)
 comma_stays None text = unbroken-append [] text 44 (omega arith)
 
--- the text of a piece as it is printed
-pub piece_escaped : (order : Order) (of : Part) (at : Option ℕ) (part : Part)
-    → unbroken (comma_before at ++ print (json_tokens (piece_json order of.in_chunk.start part))) ≡ piece_text order of at part
-piece_escaped order of at part = comma_stays at (print (json_tokens (piece_json order of.in_chunk.start part)))
+-- the text of an item as it is printed
+pub item_escaped : (json : Part → Json) (at : Option ℕ) (part : Part)
+    → unbroken (comma_before at ++ print (json_tokens (json part))) ≡ item_text json at part
+item_escaped json at part = comma_stays at (print (json_tokens (json part)))
 
 begin_ends : (order : Order) (at of : Option ℕ) (part : Part) → EndsWith 91 (print (begin_tokens order at of part))
 begin_ends Target at of part = ends_with_bracket (begin_object ∷ key (codes "from") ∷ [])
@@ -119,60 +119,86 @@ pub begin_escaped : (at of : Option ℕ) (part : Part) → unbroken (print (begi
 unfolding print_from escape_byte
 begin_escaped at of part = refl
 
-module _ (of : Part) where
-  -- a piece, printed
-  abbrev printed : Order → Option ℕ → Part → List ℕ
-  printed order at part = comma_before at ++ print (json_tokens (piece_json order of.in_chunk.start part))
+-- ---- the items of a list
 
-  piece_ends : (order : Order) (at : Option ℕ) (part : Part) → EndsWith 125 (printed order at part)
-  piece_ends order at part =
-      let json = piece_json order of.in_chunk.start part in
-      let (front, ends) = object_ends json _ refl in
+module _ (json : Part → Json) (is_object : (part : Part) → (ms : Members) × (json part ≡ object ms)) where
+  -- an item, printed
+  abbrev printed : Option ℕ → Part → List ℕ
+  printed at part = comma_before at ++ print (json_tokens (json part))
+
+  abbrev all_printed : ℕ → List Part → List ℕ
+  all_printed = lines_from (λ n. printed (counted n))
+
+  -- the items, as they are sent
+  abbrev pub all_sent : ℕ → List Part → List ℕ
+  all_sent = lines_from (λ n. item_text json (counted n))
+
+  item_ends : (at : Option ℕ) (part : Part) → EndsWith 125 (printed at part)
+  item_ends at part =
+      let (ms, is) = is_object part in
+      let (front, ends) = object_ends (json part) ms is in
       (comma_before at ++ front, ap (λ text. comma_before at ++ text) ends ∙ sym (append_assoc (comma_before at) front (125 ∷ [])))
 
-  pieces_escaped : (order : Order) (n : ℕ) (parts : List Part) (rest : List ℕ)
-      → unbroken (lines_from (λ n. printed order (counted n)) n parts ++ rest)
-      ≡ lines_from (λ n. piece_text order of (counted n)) n parts ++ unbroken rest
-  pieces_escaped order n [] rest = refl
-  pieces_escaped order n (part ∷ parts) rest =
-      let one = printed order (counted n) part in
-      let others = lines_from (λ n. printed order (counted n)) (suc n) parts in
+  items_escaped : (n : ℕ) (parts : List Part) (rest : List ℕ) → unbroken (all_printed n parts ++ rest) ≡ all_sent n parts ++ unbroken rest
+  items_escaped n [] rest = refl
+  items_escaped n (part ∷ parts) rest =
+      let one = printed (counted n) part in
+      let others = all_printed (suc n) parts in
       ap unbroken (append_assoc one others rest)
-      ∙ escaped_apart 125 (omega arith) one (others ++ rest) (piece_ends order (counted n) part)
-      ∙ ap₂ (λ xs ys. xs ++ ys) (piece_escaped order of (counted n) part) (pieces_escaped order (suc n) parts rest)
-      ∙ sym (append_assoc (piece_text order of (counted n) part) _ _)
+      ∙ escaped_apart 125 (omega arith) one (others ++ rest) (item_ends (counted n) part)
+      ∙ ap₂ (λ xs ys. xs ++ ys) (item_escaped json (counted n) part) (items_escaped (suc n) parts rest)
+      ∙ sym (append_assoc (item_text json (counted n) part) _ _)
 
-  piece_printed : (order : Order) (n : ℕ) (part : Part)
-      → print_from (some_came n) (json_tokens (piece_json order of.in_chunk.start part)) ≡ printed order (counted n) part
-  piece_printed order n part = first_printed _ n begin_object refl
+  item_printed : (n : ℕ) (part : Part) → print_from (some_came n) (json_tokens (json part)) ≡ printed (counted n) part
+  item_printed n part =
+      let (ms, is) = is_object part in
+      ap (λ j. print_from (some_came n) (json_tokens j)) is ∙ first_printed _ n begin_object refl
+      ∙ ap (λ j. comma_before (counted n) ++ print (json_tokens j)) (sym is)
 
-  pieces_texts : (order : Order) (n : ℕ) (parts : List Part) (ts : List Token)
-      → print_from (some_came n) (items_tokens (pieces_items order of.in_chunk.start parts) ++ ts)
-      ≡ lines_from (λ n. printed order (counted n)) n parts ++ print_from false (end_array ∷ ts)
+  items_printed : (n : ℕ) (parts : List Part) (ts : List Token)
+      → print_from (some_came n) (items_tokens (items_of json parts) ++ ts) ≡ all_printed n parts ++ print_from false (end_array ∷ ts)
   unfolding print_from
-  pieces_texts order zero [] ts = refl
-  pieces_texts order (suc n) [] ts = refl
-  pieces_texts order n (part ∷ others) ts =
-      let json = piece_json order of.in_chunk.start part in
-      let js = json_tokens json in
-      let rest = items_tokens (pieces_items order of.in_chunk.start others) in
+  items_printed zero [] ts = refl
+  items_printed (suc n) [] ts = refl
+  items_printed n (part ∷ others) ts =
+      let js = json_tokens (json part) in
+      let rest = items_tokens (items_of json others) in
       ap (print_from (some_came n)) (append_assoc js rest ts)
       ∙ print_from-append (some_came n) js (rest ++ ts)
-      ∙ rw (json_ends (some_came n) json, piece_printed order n part)
-      (ap (λ text. printed order (counted n) part ++ text) (pieces_texts order (suc n) others ts))
-      ∙ sym (append_assoc (printed order (counted n) part) _ _)
+      ∙ rw (json_ends (some_came n) (json part), item_printed n part)
+      (ap (λ text. printed (counted n) part ++ text) (items_printed (suc n) others ts))
+      ∙ sym (append_assoc (printed (counted n) part) _ _)
 
+  -- a list behind tokens after which no value has ended, as text that is escaped
+  list_sent : (first ts : List Token) (parts : List Part) → ended false first ≡ false → EndsWith 91 (print first)
+      → unbroken (print (first ++ (items_tokens (items_of json parts) ++ ts)))
+      ≡ unbroken (print first) ++ (all_sent 0 parts ++ unbroken (print_from false (end_array ∷ ts)))
+  list_sent first ts parts begun bracket =
+      let pieces = items_tokens (items_of json parts) in
+      let last = print_from false (end_array ∷ ts) in
+      ap unbroken
+      (print_from-append false first (pieces ++ ts) ∙ ap (λ b. print first ++ print_from b (pieces ++ ts)) begun
+      ∙ ap (λ text. print first ++ text) (items_printed 0 parts ts))
+      ∙ escaped_apart 91 (omega arith) (print first) (all_printed 0 parts ++ last) bracket
+      ∙ ap (λ text. unbroken (print first) ++ text) (items_escaped 0 parts last)
+
+-- ---- the line of a chunk
+
+pieces_are_objects : (order : Order) (of part : Part) → (ms : Members) × (piece_json order of.in_chunk.start part ≡ object ms)
+pieces_are_objects order of part = (_, refl)
+
+module _ (of : Part) where
   -- the tokens of a line: those before its pieces, the pieces, and those behind them
   line_tokens : (order : Order) (at all : Option ℕ) (parts : List Part) → (ts : List Token)
       × (json_tokens (group_json order at all (of, parts))
-      ≡ begin_tokens order at all of ++ (items_tokens (pieces_items order of.in_chunk.start parts) ++ ts))
+      ≡ begin_tokens order at all of ++ (items_tokens (items_of (piece_json order of.in_chunk.start) parts) ++ ts))
       × (end_tokens order at all of ≡ end_array ∷ ts) × (ended false (begin_tokens order at all of) ≡ false)
   line_tokens Target at all parts = (members_tokens (end_members at all of), refl, refl, refl)
   line_tokens Source at all parts =
       let chunk = json_tokens (chunk_json of) in
       let number = json_tokens (count_json at) in
       let count = json_tokens (count_json all) in
-      let pieces = items_tokens (pieces_items Source of.in_chunk.start parts) in
+      let pieces = items_tokens (items_of (piece_json Source of.in_chunk.start) parts) in
       let last : List Token = key (codes "to") ∷ begin_array ∷ [] in
       let third : List Token = key (codes "of") ∷ (count ++ last) in
       let second : List Token = key (codes "number") ∷ (number ++ third) in
@@ -190,21 +216,73 @@ module _ (of : Part) where
       → group_line order at all (of, parts)
       ≡ (begin_of_line order at all of ++ lines_from (λ n. piece_text order of (counted n)) 0 parts) ++ end_of_line order at all of
   in_pieces order at all parts =
-      let texts = lines_from (λ n. printed order (counted n)) 0 parts in
       let first = begin_tokens order at all of in
-      let last = print (end_tokens order at all of) in
       let (ts, tokens, end, begun) = line_tokens order at all parts in
-      let pieces = items_tokens (pieces_items order of.in_chunk.start parts) in
-      let rest : print_from (ended false first) (pieces ++ ts) ≡ texts ++ last =
-      ap (λ b. print_from b (pieces ++ ts)) begun ∙ pieces_texts order 0 parts ts ∙ ap (λ us. texts ++ print us) (sym end)
-      in
-      let whole = ap print tokens ∙ print_from-append false first (pieces ++ ts) ∙ ap (λ text. print first ++ text) rest in
+      let sent = list_sent (piece_json order of.in_chunk.start) (pieces_are_objects order of) first ts parts begun (begin_ends order at all of) in
       let begin = begin_of_line order at all of in
       let escaped = lines_from (λ n. piece_text order of (counted n)) 0 parts in
-      ap (λ text. text ++ codes "\n")
-      (ap unbroken whole ∙ escaped_apart 91 (omega arith) (print first) (texts ++ last) (begin_ends order at all of)
-      ∙ ap (λ text. begin ++ text) (pieces_escaped order 0 parts last) ∙ sym (append_assoc begin escaped (unbroken last)))
-      ∙ append_assoc (begin ++ escaped) (unbroken last) (codes "\n")
+      let last = unbroken (print (end_tokens order at all of)) in
+      let whole : unbroken (print (json_tokens (group_json order at all (of, parts)))) ≡ begin ++ (escaped ++ last) =
+      ap (λ us. unbroken (print us)) tokens ∙ sent ∙ ap (λ us. begin ++ (escaped ++ unbroken (print us))) (sym end) in
+      ap (λ text. text ++ codes "\n") (whole ∙ sym (append_assoc begin escaped last)) ∙ append_assoc (begin ++ escaped) last (codes "\n")
+
+-- ---- the line of a task
+
+overlaps_are_objects : (written : Bool) (part : Part) → (ms : Members) × (overlap_json written part ≡ object ms)
+overlaps_are_objects written part = (_, refl)
+
+module _ (buffer : List ℕ) (at all : Option ℕ) where
+  begin_task_ends : EndsWith 91 (print (begin_task_tokens buffer))
+  begin_task_ends =
+      simp append_assoc at (ends_with_bracket (begin_object ∷ key (codes "buffer") ∷ (json_tokens (numbers_json buffer) ++ key (codes "from") ∷ [])))
+
+  middle_task_ends : EndsWith 91 (print (middle_task_tokens at all))
+  middle_task_ends =
+      let number = json_tokens (count_json at) in
+      let count = json_tokens (count_json all) in
+      simp append_assoc at
+      (ends_with_bracket (end_array ∷ key (codes "number") ∷ (number ++ key (codes "of") ∷ (count ++ key (codes "to") ∷ []))))
+
+  begin_begun : ended false (begin_task_tokens buffer) ≡ false
+  begin_begun = begun_again false (json_tokens (numbers_json buffer)) (key (codes "from") ∷ begin_array ∷ []) (λ _. refl)
+
+  middle_begun : ended false (middle_task_tokens at all) ≡ false
+  middle_begun =
+      let count = json_tokens (count_json all) in
+      let last : List Token = key (codes "to") ∷ begin_array ∷ [] in
+      begun_again false (json_tokens (count_json at)) (key (codes "of") ∷ (count ++ last)) (λ _. begun_again false count last (λ _. refl))
+
+  -- the line is what begins it, what is read, what stands between, what is written, and the end
+  pub in_task : (plan : TaskPlan) → plan.0.source.shape ≡ buffer
+      → task_line at all plan
+      ≡ ((begin_of_task buffer ++ lines_from (λ n. item_text (overlap_json false) (counted n)) 0 plan.1.0)
+      ++ (middle_of_task at all ++ lines_from (λ n. item_text (overlap_json true) (counted n)) 0 plan.1.1))
+      ++ end_of_task
+  in_task plan same =
+      let reads = items_tokens (items_of (overlap_json false) plan.1.0) in
+      let writes = items_tokens (items_of (overlap_json true) plan.1.1) in
+      let number = json_tokens (count_json at) in
+      let count = json_tokens (count_json all) in
+      let last : List Token = end_object ∷ [] in
+      let to : List Token = key (codes "to") ∷ begin_array ∷ [] in
+      let of : List Token = key (codes "of") ∷ (count ++ to) in
+      let behind : List Token = key (codes "number") ∷ (number ++ of) in
+      let begin = begin_of_task buffer in
+      let middle = middle_of_task at all in
+      let read = lines_from (λ n. item_text (overlap_json false) (counted n)) 0 plan.1.0 in
+      let written = lines_from (λ n. item_text (overlap_json true) (counted n)) 0 plan.1.1 in
+      let end = unbroken (print (end_array ∷ last)) in
+      let tokens : json_tokens (task_json at all plan) ≡ begin_task_tokens buffer ++ (reads ++ (behind ++ (writes ++ last))) =
+      rw same
+      (ap (λ ts. begin_object ∷ key (codes "buffer") ∷ ts)
+      (ap (λ ts. json_tokens (numbers_json buffer) ++ key (codes "from") ∷ begin_array ∷ (reads ++ key (codes "number") ∷ ts))
+      (ap (λ ts. number ++ key (codes "of") ∷ ts) (sym (append_assoc count to (writes ++ last))) ∙ sym (append_assoc number of (writes ++ last)))
+      ∙ sym (append_assoc (json_tokens (numbers_json buffer)) (key (codes "from") ∷ begin_array ∷ []) (reads ++ (behind ++ (writes ++ last)))))) in
+      let first = list_sent (overlap_json false) (overlaps_are_objects false) (begin_task_tokens buffer) (behind ++ (writes ++ last)) plan.1.0 begin_begun begin_task_ends in
+      let second = list_sent (overlap_json true) (overlaps_are_objects true) (middle_task_tokens at all) last plan.1.1 middle_begun middle_task_ends in
+      let whole : unbroken (print (json_tokens (task_json at all plan))) ≡ begin ++ (read ++ (middle ++ (written ++ end))) =
+      ap (λ us. unbroken (print us)) tokens ∙ first ∙ ap (λ text. begin ++ (read ++ text)) second in
+      ap (λ text. text ++ codes "\n") whole ∙ simp append_assoc refl
 
 -- the tokens of a part of a read
 pub part_tokens : (at of : Option ℕ) (wanted : Option RangesWanted) (part : Part) → json_tokens (part_json at of wanted part)
@@ -227,3 +305,13 @@ pub piece_tokens : (order : Order) (first : List ℕ) (part : Part) → json_tok
     ++ (whole_tokens order part ++ end_object ∷ [])))))
 piece_tokens Target first part = refl
 piece_tokens Source first part = refl
+
+-- the tokens of an overlap
+pub overlap_tokens : (written : Bool) (part : Part) → json_tokens (overlap_json written part)
+    ≡ begin_object ∷ key (codes "chunk") ∷ (json_tokens (numbers_json part.chunk.items)
+    ++ key (codes "in_buffer") ∷ (json_tokens (box_json part.in_subset)
+    ++ key (codes "in_chunk") ∷ (json_tokens (box_json part.in_chunk)
+    ++ key (codes "key") ∷ string part.key ∷ key (codes "shape") ∷ (json_tokens (numbers_json part.shape.items)
+    ++ (whole_if_tokens written part ++ end_object ∷ [])))))
+overlap_tokens true part = refl
+overlap_tokens false part = refl

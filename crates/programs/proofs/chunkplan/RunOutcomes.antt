@@ -2,17 +2,20 @@
 use Rattle.programs.proofs.chunkplan.Common.{◌≡◌, ◌∙◌, ℕ, Bool, true, false, List, [], ◌++◌, Option, None, Some, Result, Ok, Err, append_assoc, ap}
 use Rattle.programs.proofs.chunkplan.Common.{arith, inl, inr, refl, sym, true≢false, ⊎_elim, Data, Box, then, Stored, Document, Task, Wanted, copying_in}
 use Rattle.programs.proofs.chunkplan.Common.{document_in, form_in, rechunking_in, region_in, Copying, by_source, copy_to, counts_wanted, into_chunks}
-use Rattle.programs.proofs.chunkplan.Common.{lines_wanted, read_of, resize_to, to_region, within_bound, behind_first, first_line, of_create}
+use Rattle.programs.proofs.chunkplan.Common.{lines_wanted, read_of, resize_to, to_region, by_tasks, TaskChoice, behind_first, first_line, of_create}
 use Rattle.programs.proofs.chunkplan.Common.{of_document, of_stream, of_target, Output, RunFault, Memory, Read, Write, DocumentFault, StreamFault}
 use Rattle.zarrs_chunk_plan.specs.declared.copy.region_error.RegionError.{RegionError}
+use Rattle.zarrs_chunk_tasks.specs.declared.tasks_error.TasksError.{TasksError}
+use Rattle.zarrs_chunk_tasks.specs.declared.tasks_error.TasksError.TheVariants.{Region as OfRegion, TaskChunks as OfTaskChunks}
 use Rattle.streams.specs.Streams.{IsReadToEnd, Streams}
-use Rattle.programs.specs.chunkplan.Planned.{Array, IsPlanOf, begins_at, beside_by, copy_beside, copy_text, groups_of, missing_text}
+use Rattle.programs.specs.chunkplan.Document.{cheapest, given}
+use Rattle.programs.specs.chunkplan.Planned.{Array, IsPlanOf, begins_at, beside_by, copy_beside, copy_text, elements_of, groups_of, index_of, missing_text}
 use Rattle.programs.specs.chunkplan.Planned.{of_document as of_whole, of_input, of_keys, region_of, several_lines, source_in, target_in, target_shape}
-use Rattle.programs.specs.chunkplan.Planned.{text_beside, text_by, text_unless, whole_in, within_text}
+use Rattle.programs.specs.chunkplan.Planned.{stages_text, tasks_text, text_beside, text_by, text_unless, whole_in}
 use Rattle.programs.specs.chunkplan.Run.{FailsAfterDocument, HasBegunPlan, RunLeaves}
-use Rattle.programs.specs.chunkplan.RunFault.{of_region as of_region_error}
+use Rattle.programs.specs.chunkplan.RunFault.{of_region as of_region_error, of_tasks}
+use Rattle.programs.specs.chunkplan.Stages.{IsFaultOfSome, IsStageFault, Stage, Stages, asked_in, number_asked, stages_in}
 use Rattle.programs.specs.chunkplan.seen.Steps.{HasBegun, InputStepLeaves}
-use Rattle.programs.specs.declared.chunkplan.document.Stage.{Stage}
 use Rattle.documents.specs.declared.stored.CreateFault.{CreateFault}
 use Rattle.streams.specs.declared.stream_fault.StreamFault.TheVariants.{Write as WriteFailed}
 
@@ -48,6 +51,10 @@ of_target_still told = grind arith
 
 of_region_still : (told : RegionError) → moves (of_region_error told) ≡ false
 of_region_still told = grind arith
+
+of_tasks_still : (told : TasksError) → moves (of_tasks told) ≡ false
+of_tasks_still (OfTaskChunks error) = refl
+of_tasks_still (OfRegion error) = of_region_still error
 
 then_still : {X Y : Type 0} (first : Result X RunFault → Type 0) (next : X → Result Y RunFault → Type 0) → Still (λ fault. first (Err fault))
     → ((x : X) → Still (λ fault. next x (Err fault))) → Still (λ fault. then first next (Err fault))
@@ -87,17 +94,41 @@ whole_still input fault (several_lines _ _ same) = ap moves same
 
 -- ---- of what it wants
 
-within_still : (most : ℕ) (stage : Option Stage) (wanted : Wanted) (source target : Array)
-    → Still (λ fault. within_text most stage wanted source target (Err fault))
-within_still most (Some stage) wanted source target = still _ (λ never. never) (λ never. never)
-within_still most None (lines_wanted share) source target = still _ (λ never. never) (λ never. never)
-within_still most None counts_wanted source target = still _ (λ never. never) (λ never. never)
+pub stages_still : (choice : TaskChoice) (source target : Array) (region : Box) (at : List ℕ) → Still (λ fault. stages_in choice source target region at (Err fault))
+stages_still (given order each) source target region at fault none = absurd none
+stages_still (cheapest most read asked) source target region at fault (inl (same, _)) = ap moves same
+stages_still (cheapest most read asked) source target region at fault (inr (inl (same, _))) = ap moves same
+stages_still (cheapest most read asked) source target region at fault (inr (inr (told, _, same))) = ap moves same ∙ of_region_still told
+
+pub stage_still : (stage : Stage) → Still (IsStageFault stage)
+stage_still stage fault (told, _, same) = ap moves same ∙ of_tasks_still told
+
+pub fault_of_some_still : (stages : List Stage) → Still (IsFaultOfSome stages)
+fault_of_some_still stages fault (stage, _, inl is) = stage_still stage fault is
+fault_of_some_still stages fault (stage, _, inr (same, _)) = ap moves same
+
+pub asked_still : (asked : Option ℕ) (stages : List Stage) → Still (λ fault. asked_in asked stages (Err fault))
+asked_still None stages fault (_, same) = ap moves same
+asked_still (Some number) stages fault (_, same) = ap moves same
+
+pub stages_text_still : (asked : Option ℕ) (wanted : Wanted) (stages : Stages) → Still (λ fault. stages_text asked wanted stages (Err fault))
+stages_text_still asked (lines_wanted share) stages fault (inl is) = asked_still asked stages.1 fault is
+stages_text_still asked (lines_wanted share) stages fault (inr (stage, _, is)) = stage_still stage fault is
+stages_text_still asked counts_wanted stages fault is = fault_of_some_still stages.1 fault is
+
+pub tasks_still : (choice : TaskChoice) (wanted : Wanted) (source target : Array) (region : Box) (at : List ℕ)
+    → Still (λ fault. tasks_text choice wanted source target region at (Err fault))
+tasks_still choice wanted source target region at =
+    then_still (stages_in choice source target region at) (stages_text (number_asked choice) wanted) (stages_still choice source target region at)
+    (stages_text_still (number_asked choice) wanted)
 
 copy_still : (copying : Copying) (wanted : Wanted) (source target : Array) → Still (λ fault. copy_text copying wanted source target (Err fault))
 copy_still (into_chunks chunks) wanted source target = still _ (λ never. never) (λ never. never)
 copy_still by_source wanted source target = still _ (λ never. never) (λ never. never)
-copy_still (within_bound most stage) wanted source target = within_still most stage wanted source target
-copy_still (to_region shape region at) wanted source target = region_still source region (begins_at region at) target
+copy_still (to_region region) wanted source target = region_still source region.elements (begins_at region.elements region.at) target
+copy_still (by_tasks choice region) wanted source target =
+    let elements = elements_of source.0.dimensions region in
+    tasks_still choice wanted source target elements (begins_at elements (index_of region))
 
 text_still : (document : Document) (source : Array) (task : Task) → Still (λ fault. text_by document source task (Err fault))
 text_still document source (read_of subset clip ranges) = still _ (λ never. never) (λ never. never)
@@ -115,8 +146,8 @@ unless_still true document = λ fault same. ap moves same
 pub groups_still : (copying : Copying) (source target : Array) → Still (λ fault. groups_of copying source target (Err fault))
 groups_still (into_chunks chunks) source target = still _ (λ never. never) (λ never. never)
 groups_still by_source source target = λ fault none. absurd none
-groups_still (within_bound most stage) source target = λ fault none. absurd none
-groups_still (to_region shape region at) source target = region_still source region (begins_at region at) target
+groups_still (to_region region) source target = region_still source region.elements (begins_at region.elements region.at) target
+groups_still (by_tasks choice region) source target = λ fault none. absurd none
 
 beside_still : (document : Document) (bytes : List ℕ) (wanted : Wanted) (task : Task) (source : Array)
     → Still (λ fault. beside_by document bytes wanted task source (Err fault))

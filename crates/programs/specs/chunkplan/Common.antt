@@ -7,19 +7,16 @@ pub use Rattle.json.specs.Json.{Items, Json, Members, array, item, member, no_it
 pub use Rattle.json.specs.Print.{print}
 pub use Rattle.json.specs.Token.{Token, begin_array, begin_object, boolean, end_array, end_object, key}
 pub use Rattle.json.specs.Tree.{json_tokens, members_tokens}
-pub use Rattle.programs.specs.declared.chunkplan.counting.StagesCounts.{StagesCounts}
-pub use Rattle.programs.specs.declared.chunkplan.document.Stage.{Stage}
-pub use Rattle.programs.specs.declared.chunkplan.document.Stage.TheVariants.{First, Second}
 pub use Rattle.programs.specs.declared.chunkplan.known_members.UnknownMember.{UnknownMember}
 pub use Rattle.programs.specs.declared.chunkplan.line.Order.{Order}
 pub use Rattle.programs.specs.declared.chunkplan.line.Order.TheVariants.{Source, Target}
 pub use Rattle.programs.specs.declared.chunkplan.run_fault.RunFault.{RunFault}
 pub use Rattle.programs.specs.declared.chunkplan.run_fault.RunFault.TheVariants.{AtDimensionality, Copies, Encoding, Grid, KeyNotText}
-pub use Rattle.programs.specs.declared.chunkplan.run_fault.RunFault.TheVariants.{KeysOfLongDocument, Memory, Metadata, Missing, NoShape}
-pub use Rattle.programs.specs.declared.chunkplan.run_fault.RunFault.TheVariants.{NotInOneStage, NotJson, NotObject, PastArray, PastTarget, Read}
-pub use Rattle.programs.specs.declared.chunkplan.run_fault.RunFault.TheVariants.{ResizedGrid, Stages, SubsetDimensionality, TargetDimensionality}
-pub use Rattle.programs.specs.declared.chunkplan.run_fault.RunFault.TheVariants.{TargetEncoding, TargetGrid, TooManyForKeys, Uncovered, Unknown}
-pub use Rattle.programs.specs.declared.chunkplan.run_fault.RunFault.TheVariants.{UnknownOfTarget, Write, WrongValue}
+pub use Rattle.programs.specs.declared.chunkplan.run_fault.RunFault.TheVariants.{KeysOfLongDocument, Memory, Metadata, Missing, NoSuchStage}
+pub use Rattle.programs.specs.declared.chunkplan.run_fault.RunFault.TheVariants.{NoTasksFit, NotJson, NotObject, PastArray, PastTarget, Read}
+pub use Rattle.programs.specs.declared.chunkplan.run_fault.RunFault.TheVariants.{ResizedGrid, SeveralStages, SubsetDimensionality, TargetDimensionality}
+pub use Rattle.programs.specs.declared.chunkplan.run_fault.RunFault.TheVariants.{TargetEncoding, TargetGrid, TaskChunks, TooManyForKeys, TooManyToChoose, TooManyToCount, Uncovered}
+pub use Rattle.programs.specs.declared.chunkplan.run_fault.RunFault.TheVariants.{Unknown, UnknownOfTarget, Write, WrongValue}
 pub use Rattle.serde_json.specs.Data.{Data, depth}
 pub use Rattle.serde_json.specs.Find.{as_bool, as_object, as_str, get}
 pub use Rattle.serde_json.specs.View.{view}
@@ -48,7 +45,6 @@ pub use Rattle.zarrs_chunk_plan.specs.Rechunking.{AreTargets, Group, IsRechunkin
 pub use Rattle.zarrs_chunk_plan.specs.Region.{AnyChunk, IsRegionCopy, IsRegionFault, moved, shifted}
 pub use Rattle.zarrs_chunk_plan.specs.Resize.{AreResized, IsUsed}
 pub use Rattle.zarrs_chunk_plan.specs.Shares.{before_share, share_of}
-pub use Rattle.zarrs_chunk_plan.specs.Stages.{FindsShape, HoldAtMost, IsBoundFault, IsLargest, IsStagesFault}
 pub use Rattle.zarrs_chunk_plan.specs.declared.bytes.ranges.MemoryOrder.{MemoryOrder}
 pub use Rattle.zarrs_chunk_plan.specs.declared.copy.region_error.RegionError.{RegionError}
 pub use Rattle.zarrs_chunk_plan.specs.declared.counts.of_plans.Counts.{Counts}
@@ -56,5 +52,10 @@ pub use Rattle.zarrs_chunk_plan.specs.declared.resize.plan.ChunkChange.{ChunkCha
 pub use Rattle.zarrs_chunk_plan.specs.declared.shares.share.Share.{Share}
 pub use Rattle.zarrs_chunk_plan.specs.seen.Copies.{all_targets, region_of, target_of, targets_to_come}
 pub use Rattle.zarrs_chunk_questions.specs.Order.{order_in, order_text}
+pub use Rattle.zarrs_chunk_tasks.specs.Counts.{in_all}
+pub use Rattle.zarrs_chunk_tasks.specs.Tasks.{TaskPlan}
+pub use Rattle.zarrs_chunk_tasks.specs.declared.counts.CountsAlong.{CountsAlong}
+pub use Rattle.zarrs_chunk_tasks.specs.declared.task.Task.{Task as CopyTask}
+pub use Rattle.zarrs_chunk_tasks.specs.declared.tasks_error.TasksError.{TasksError}
 pub use Rattle.zarrs_chunks.specs.GridKinds.{IsGrid, IsGridFault, grid_kind, regular}
 pub use Rattle.zarrs_chunks.specs.seen.Grids.{grid_in}

@@ -1,9 +1,11 @@
--- The counts of a plan: an object, and the line of it; and the line of the counts of a rechunking in one stage, and of its two stages.
+-- The counts of a plan: an object, and the line of it; and the line of the counts of all stages of a copy by tasks.
 -- Source: RFC 8259; the members, in the order of their names, are this program's own.
-use Rattle.std.specs.Prelude.{◌≡◌, ◌++◌}
-use Rattle.programs.specs.chunkplan.Common.{ℕ, Bool, true, false, List, Option, Some, None, Vec, codes, Global, print, json_tokens, IsNumeral}
-use Rattle.programs.specs.chunkplan.Common.{product, Counts, StagesCounts}
+use Rattle.std.specs.Prelude.{◌≡◌, ◌++◌, ◌∷◌}
+use Rattle.programs.specs.chunkplan.Common.{ℕ, Bool, true, false, List, [], Option, Some, None, Vec, codes, Global, print, json_tokens, IsNumeral}
+use Rattle.programs.specs.chunkplan.Common.{product, Counts, CountsAlong, in_all}
+use Rattle.std.specs.List.{AllZip, flat_map}
 use Rattle.programs.specs.chunkplan.Line.{numbers_json}
+use Rattle.programs.specs.chunkplan.Stages.{AreStageCounts, Stage, Stages}
 
 -- a count as text: the numeral of the product of its factors, and `null` where it isn't counted
 abbrev pub IsCount : Option (Vec ℕ Global) → List ℕ → Type 0
@@ -29,28 +31,52 @@ pub record IsCountsObject (counts : Counts) (object : List ℕ) : Type 0 where
 abbrev pub IsCountsLine : Counts → List ℕ → Type 0
 IsCountsLine counts line = (object : List ℕ) × IsCountsObject counts object × (line ≡ object ++ codes "\n")
 
--- ---- in one stage, and in two
+-- ---- stages
 
--- the shape of the chunks of the intermediate array, and `null` if no shape fits
-abbrev pub between_text : Option StagesCounts → List ℕ
-between_text (Some stages) = print (json_tokens (numbers_json stages.shape.items))
-between_text None = codes "null"
+-- a list of numbers, or `null` without one
+abbrev pub shape_text : Option (List ℕ) → List ℕ
+shape_text (Some shape) = print (json_tokens (numbers_json shape))
+shape_text None = codes "null"
 
-abbrev pub flag_text : Bool → List ℕ
-flag_text true = codes "true"
-flag_text false = codes "false"
+-- a flag, or `null` without one
+abbrev pub flag_text : Option Bool → List ℕ
+flag_text (Some true) = codes "true"
+flag_text (Some false) = codes "false"
+flag_text None = codes "null"
 
--- the list of the counts of the first stage and of the second, and `null` where there are none
-abbrev pub AreStagesObjects : Option StagesCounts → List ℕ → Type 0
-AreStagesObjects (Some stages) text = (first : List ℕ) × (second : List ℕ) × IsCountsObject stages.first first × IsCountsObject stages.second second
-    × (text ≡ codes "[" ++ first ++ codes "," ++ second ++ codes "]")
-AreStagesObjects None text = text ≡ codes "null"
+-- an object with the counts of a stage
+pub record IsStageObject (stage : Stage) (counts : List CountsAlong) (object : List ℕ) : Type 0 where
+  pub chunks_read : List ℕ
+  pub chunks_written : List ℕ
+  pub elements_decoded : List ℕ
+  pub elements_moved : List ℕ
+  pub largest_task : List ℕ
+  pub tasks : List ℕ
+  pub is_chunks_read : IsNumeral (in_all (λ along. along.chunks_read) counts) chunks_read
+  pub is_chunks_written : IsNumeral (in_all (λ along. along.chunks_written) counts) chunks_written
+  pub is_elements_decoded : IsNumeral (in_all (λ along. along.elements_decoded) counts) elements_decoded
+  pub is_elements_moved : IsNumeral (product stage.region.shape) elements_moved
+  pub is_largest_task : IsNumeral (in_all (λ along. along.largest_task) counts) largest_task
+  pub is_tasks : IsNumeral (in_all (λ along. along.tasks) counts) tasks
+  pub is : object ≡ codes "{\"chunks_read\":" ++ chunks_read ++ codes ",\"chunks_written\":" ++ chunks_written
+      ++ codes ",\"elements_decoded\":" ++ elements_decoded ++ codes ",\"elements_moved\":" ++ elements_moved
+      ++ codes ",\"intermediate\":" ++ shape_text stage.intermediate ++ codes ",\"largest_task\":" ++ largest_task
+      ++ codes ",\"task_chunks\":" ++ shape_text (Some stage.each) ++ codes ",\"tasks\":" ++ tasks ++ codes "}"
 
--- an object with the shape between, whether one stage fits, the counts of one stage, and those of two
-pub record IsStagesLine (fits : Bool) (one_stage : Counts) (stages : Option StagesCounts) (line : List ℕ) : Type 0 where
-  pub one : List ℕ
-  pub two : List ℕ
-  pub is_one : IsCountsObject one_stage one
-  pub are_two : AreStagesObjects stages two
-  pub is : line ≡ codes "{\"between\":" ++ between_text stages ++ codes ",\"fits\":" ++ flag_text fits ++ codes ",\"one_stage\":" ++ one
-      ++ codes ",\"stages\":" ++ two ++ codes "}\n"
+-- the object of the counts of a stage's tasks
+abbrev pub IsCountedStage : Stage → (object : List ℕ) → Type 0
+IsCountedStage stage object = (counts : List CountsAlong) × AreStageCounts stage counts × IsStageObject stage counts object
+
+-- texts as the items of a list: a comma stands before each but the first
+abbrev pub with_commas : List (List ℕ) → List ℕ
+with_commas = flat_map (λ text. codes "," ++ text)
+
+abbrev pub listed : List (List ℕ) → List ℕ
+listed [] = []
+listed (text ∷ texts) = text ++ with_commas texts
+
+-- the line of all stages: whether they are exact, and the object of each
+pub record IsStagesLine (stages : Stages) (line : List ℕ) : Type 0 where
+  pub objects : List (List ℕ)
+  pub are_objects : AllZip IsCountedStage stages.1 objects
+  pub is : line ≡ codes "{\"exact\":" ++ flag_text stages.0 ++ codes ",\"stages\":[" ++ listed objects ++ codes "]}\n"

@@ -1,13 +1,14 @@
 -- The program's document: a JSON object with the members `shape`, `chunk_grid` and `chunk_key_encoding`. Besides it has, for a read, `subset` and
--- `clip`, if they are wanted, and `item_size`, if byte ranges are, with `memory_order` and `max_ranges`; for a rechunking, `target`, and `chunks`,
--- `order`, or `max_elements` and `stage`, if they are wanted; for the copy of a region, `target` and `subset`, and `at` if it is wanted. `share` or
+-- `clip`, if they are wanted, and `item_size`, if byte ranges are, with `memory_order` and `max_ranges`; for a rechunking, `target`, and `chunks` or
+-- `order`, if they are wanted; for the copy of a region, `target` and `subset`, and `at` if it is wanted. A rechunking and the copy of a region are
+-- made of tasks, if `task_chunks` is there, or `max_elements`, perhaps with `read_elements` and `stage`. `share` or
 -- `counts` says what is wanted of the plan, if not all lines; beside a target, `keys` that keys of its store stand behind the document. For a resize
 -- it has `resize`, and `keep` if it is wanted, and none of these. What else an array's `zarr.json` has may stand in it and in the target.
-use Rattle.std.specs.Prelude.{◌≡◌, ◌⊎◌, ◌==◌, ◌^◌, ◌≤◌}
+use Rattle.std.specs.Prelude.{◌≡◌, ◌^◌, ◌≤◌}
 use Rattle.programs.specs.chunkplan.Common.{ℕ, Bool, true, false, cond, IsSome, IsTrue, List, Option, Some, None, Result, Ok, Err, bytes_eq, codes}
-use Rattle.programs.specs.chunkplan.Common.{nat_lt, option_and_then, option_map, Data, as_bool, as_object, as_str, get, Box, IsBox, edge_of, list_of}
+use Rattle.programs.specs.chunkplan.Common.{map, nat_lt, option_and_then, option_map, Data, as_bool, as_object, as_str, get, Box, IsBox, edge_of, list_of}
 use Rattle.programs.specs.chunkplan.Common.{pair_of, size_of, MemoryOrder, Share, order_in, gives, optional, then, told, Stored, stored_of}
-use Rattle.programs.specs.chunkplan.Common.{DocumentFault, UnknownMember, Order, Source, Target, RunFault, Stage, First, Second}
+use Rattle.programs.specs.chunkplan.Common.{DocumentFault, UnknownMember, Order, Source, Target, RunFault}
 use Rattle.std.specs.Int.NonZero.{non_zero_u64_get}
 use Rattle.zarrs_chunk_base.specs.ArraySubsetError.{IsBoxFault}
 use Rattle.zarrs_chunk_base.specs.First.{IsFirst}
@@ -21,6 +22,9 @@ use Rattle.programs.specs.declared.chunkplan.ranges.RangesAsked.{RangesAsked}
 use Rattle.programs.specs.declared.chunkplan.document.Document.{Document as DocumentValue}
 use Rattle.programs.specs.declared.chunkplan.document.Task.{Task as TaskValue}
 use Rattle.programs.specs.declared.chunkplan.document.Copying.{Copying as CopyingValue}
+use Rattle.programs.specs.declared.chunkplan.document.RegionAsked.{RegionAsked}
+use Rattle.programs.specs.declared.chunkplan.task_choice.TaskChoice.{TaskChoice as ChoiceValue}
+use Rattle.programs.specs.declared.chunkplan.task_choice.TaskChoice.TheVariants.{Cheapest as CheapestValue, Given as GivenValue}
 use Rattle.programs.specs.declared.chunkplan.document.Wanted.{Wanted as WantedValue}
 use Rattle.programs.specs.declared.chunkplan.document.Wanted.TheVariants.{Counts as CountsValue, Lines as LinesValue}
 use Rattle.programs.specs.declared.chunkplan.run_fault.RunFault.TheVariants as fault
@@ -33,14 +37,25 @@ pub record RangesWanted : Type 0 where
   pub order : MemoryOrder
   pub most : ℕ
 
+-- the region that is copied: a box of elements, which goes to an array of this shape, and perhaps to an index there
+pub record RegionWanted : Type 0 where
+  pub shape : List ℕ
+  pub elements : Box
+  pub at : Option (List ℕ)
+
+-- Which tasks a copy is made of. Each takes these numbers of neighbouring chunks of the target, or of the source. Or they are chosen: the cheapest ones
+-- that hold at most `most` elements, if one read is worth `read` elements, and perhaps the tasks of one stage alone.
+pub data TaskChoice : Type 0 where
+  given : Order → (each : List ℕ) → TaskChoice
+  cheapest : (most read : ℕ) → (stage : Option ℕ) → TaskChoice
+
 -- What is copied to another array. All goes into the chunks of a box, or into all chunks. Or all goes in the order of the source, a line for each of
--- its chunks. Or all goes while a worker holds at most `most` elements: in one stage, or one of two stages is asked for. Or a region, a box of
--- elements, goes to an array of this shape, and perhaps to an index there.
+-- its chunks. Or a region goes. Or all goes by tasks, or a region.
 pub data Copying : Type 0 where
   into_chunks : Option Box → Copying
   by_source : Copying
-  within_bound : (most : ℕ) → Option Stage → Copying
-  to_region : (shape : List ℕ) → (region : Box) → (at : Option (List ℕ)) → Copying
+  to_region : RegionWanted → Copying
+  by_tasks : TaskChoice → Option RegionWanted → Copying
 
 -- What is asked for. It is a read of a box of elements or of all, as it is or clipped to the array, and perhaps with byte ranges. Or it is a copy to an
 -- array that is stored in some way. Or it is a resize of the array to another shape, with or without the chunks that stay as they are stored.
@@ -66,11 +81,18 @@ pub record Document : Type 0 where
 abbrev pub ranges_asked_of : RangesAsked → RangesWanted
 ranges_asked_of asked = record { item = non_zero_u64_get asked.item_size; order = asked.order; most = asked.most }
 
+abbrev pub region_asked_of : RegionAsked → RegionWanted
+region_asked_of region = record { shape = region.shape.items; elements = region.elements; at = option_map (λ v. v.items) region.at }
+
+abbrev pub choice_of : ChoiceValue → TaskChoice
+choice_of (GivenValue order each) = given order (map non_zero_u64_get each.items)
+choice_of (CheapestValue most read stage) = cheapest most read (option_map non_zero_u64_get stage)
+
 abbrev pub copying_of : CopyingValue → Copying
 copying_of (copying.Chunks chunks) = into_chunks chunks
 copying_of copying.BySource = by_source
-copying_of (copying.Within most stage) = within_bound most stage
-copying_of (copying.Region shape region at) = to_region shape.items region (option_map (λ v. v.items) at)
+copying_of (copying.Region region) = to_region (region_asked_of region)
+copying_of (copying.Tasks choice region) = by_tasks (choice_of choice) (option_map region_asked_of region)
 
 abbrev pub task_of : TaskValue → Task
 task_of (task.Read subset clip ranges) = read_of subset clip (option_map ranges_asked_of ranges)
@@ -99,10 +121,6 @@ line_order_of d = option_and_then (λ text. cond (bytes_eq text (codes "target")
 -- The member `order` names the order of the lines; where it is absent, they are in that of the target.
 abbrev pub line_order_in : Data → Result Order DocumentFault → Type 0
 line_order_in = in_form_or Target line_order_of (codes "order")
-
--- the stage that a number names: the first or the second
-abbrev pub stage_of : Data → Option Stage
-stage_of d = option_and_then (λ n. cond (n == 1) (Some First) (cond (n == 2) (Some Second) None)) (size_of d)
 
 -- up to how many ranges a number lists
 abbrev pub most_of : Data → Option ℕ
@@ -153,6 +171,29 @@ box_of name value (Err _) = ⊥
 -- a member that is a box, if it is there
 abbrev pub box_in : (field : List ℕ) → Data → Result (Option Box) RunFault → Type 0
 box_in field d = optional (gives None) (λ m. then (box_of field m) (λ b. gives (Some b))) (get field d)
+
+-- ---- tasks
+
+-- what one read is worth, in elements, if nothing is said: ten megabytes of elements of four bytes
+abbrev pub usual_read_elements : ℕ
+usual_read_elements = 2500000
+
+-- the cheapest tasks, if a bound of elements is there
+abbrev pub cheapest_in : Data → (most : Option ℕ) → Result (Option TaskChoice) DocumentFault → Type 0
+cheapest_in d None = gives None
+cheapest_in d (Some most) =
+    then (in_form_or usual_read_elements size_of (codes "read_elements") d) (λ read.
+    then (optional_in edge_of (codes "stage") d) (λ stage.
+    gives (Some (cheapest most read stage))))
+
+-- the tasks of these numbers of chunks, in an order; the cheapest ones, if there are no numbers
+abbrev pub choice_by : Data → (each : Option (List ℕ)) → Result (Option TaskChoice) DocumentFault → Type 0
+choice_by d (Some each) = then (line_order_in d) (λ order. gives (Some (given order each)))
+choice_by d None = then (optional_in size_of (codes "max_elements") d) (cheapest_in d)
+
+-- which tasks the copy is made of, if it is made of tasks
+abbrev pub choice_in : Data → Result (Option TaskChoice) DocumentFault → Type 0
+choice_in d = then (optional_in (list_of edge_of) (codes "task_chunks") d) (choice_by d)
 
 -- ---- which members there are
 
@@ -209,18 +250,22 @@ abbrev pub rechunking_by : Data → Stored → Order → Result Task RunFault �
 rechunking_by d stored Target = then (box_in (codes "chunks") d) (λ chunks. gives (copy_to stored (into_chunks chunks)))
 rechunking_by d stored Source = gives (copy_to stored by_source)
 
--- a rechunking of which a worker holds at most this number of elements, or one in an order
-abbrev pub rechunking_within : Data → Stored → (most : Option ℕ) → Result Task RunFault → Type 0
-rechunking_within d stored (Some most) =
-    then (told of_document (optional_in stage_of (codes "stage") d)) (λ stage. gives (copy_to stored (within_bound most stage)))
-rechunking_within d stored None = then (told of_document (line_order_in d)) (rechunking_by d stored)
+-- a rechunking by tasks, or one in an order
+abbrev pub rechunking_with : Data → Stored → Option TaskChoice → Result Task RunFault → Type 0
+rechunking_with d stored (Some choice) = gives (copy_to stored (by_tasks choice None))
+rechunking_with d stored None = then (told of_document (line_order_in d)) (rechunking_by d stored)
 
 -- a rechunking to this target
 abbrev pub rechunking_in : (d target : Data) → Result Task RunFault → Type 0
 rechunking_in d target =
     then (of_array d target) (λ _.
     then (told of_document (target_stored_in target)) (λ stored.
-    then (told of_document (optional_in size_of (codes "max_elements") d)) (rechunking_within d stored)))
+    then (told of_document (choice_in d)) (rechunking_with d stored)))
+
+-- a region, by tasks or not
+abbrev pub region_with : Option TaskChoice → RegionWanted → Copying
+region_with (Some choice) region = by_tasks choice (Some region)
+region_with None region = to_region region
 
 -- the copy of a region to this target
 abbrev pub region_in : (d target subset : Data) → Result Task RunFault → Type 0
@@ -228,9 +273,10 @@ region_in d target subset =
     then (of_type d target) (λ _.
     then (told of_document (shape_in (codes "target.shape") target)) (λ shape.
     then (told of_document (target_stored_in target)) (λ stored.
-    then (box_of (codes "subset") subset) (λ region.
+    then (box_of (codes "subset") subset) (λ elements.
     then (told of_document (optional_in (list_of size_of) (codes "at") d)) (λ at.
-    gives (copy_to stored (to_region shape region at)))))))
+    then (told of_document (choice_in d)) (λ choice.
+    gives (copy_to stored (region_with choice (record { shape = shape; elements = elements; at = at })))))))))
 
 -- What is copied: without a target, what is read; with one, which is an object, a region, where `subset` is there, or else a rechunking.
 abbrev pub copying_in : Data → (target : Option Data) → Result Task RunFault → Type 0
@@ -271,7 +317,7 @@ document_in input = then (told of_document (object_in input)) form_in
 -- the lines of a rechunking in the order of the target, or of the copy of a region, are asked for
 abbrev pub HasGroups : Copying → Type 0
 HasGroups (into_chunks chunks) = Unit {0}
-HasGroups (to_region shape region at) = Unit {0}
+HasGroups (to_region region) = Unit {0}
 HasGroups _ = ⊥
 
 abbrev pub AsksForLinesOfCopy : Document → Type 0

@@ -1,6 +1,6 @@
 -- The members that a document may have, and those in which source and target have to agree.
 -- Source: Zarr V3 core, array metadata; `at`, `chunks`, `clip`, `counts`, `item_size`, `keep`, `keys`, `max_elements`, `max_ranges`,
--- `memory_order`, `order`, `resize`, `share`, `stage`, `subset` and `target` are this program's own.
+-- `memory_order`, `order`, `read_elements`, `resize`, `share`, `stage`, `subset`, `target` and `task_chunks` are this program's own.
 use Rattle.std.specs.Prelude.{◌≡◌, ◌≢◌, ◌≤◌, ◌∷◌, ◌++◌}
 use Rattle.programs.specs.chunkplan.Common.{ℕ, List, [], Some, codes, false, string_bytes, Data, depth, as_object, get, UnknownMember}
 use Rattle.serde_json.specs.Data.{Members}
@@ -19,8 +19,8 @@ abbrev pub known_members : List (List ℕ)
 known_members =
     zarr_json_members
     ++ codes "at" ∷ codes "chunks" ∷ codes "clip" ∷ codes "counts" ∷ codes "item_size" ∷ codes "keep" ∷ codes "keys"
-    ∷ codes "max_elements" ∷ codes "max_ranges" ∷ codes "memory_order" ∷ codes "order" ∷ codes "resize" ∷ codes "share" ∷ codes "stage"
-    ∷ codes "subset" ∷ codes "target" ∷ []
+    ∷ codes "max_elements" ∷ codes "max_ranges" ∷ codes "memory_order" ∷ codes "order" ∷ codes "read_elements" ∷ codes "resize"
+    ∷ codes "share" ∷ codes "stage" ∷ codes "subset" ∷ codes "target" ∷ codes "task_chunks" ∷ []
 
 -- each member of the object is one of these
 abbrev pub HasOnly : List (List ℕ) → Data → Type 0

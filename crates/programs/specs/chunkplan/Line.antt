@@ -1,10 +1,10 @@
 -- The lines of a plan: compact JSON, an object a line. Characters that break a line for some reader are escaped.
 -- Source: RFC 8259, and JSON Lines; the members are this program's own.
 use Rattle.std.specs.Prelude.{◌∷◌, ◌++◌}
-use Rattle.programs.specs.chunkplan.Common.{ℕ, suc, List, [], length, codes, cond, decimal, nat_le, Option, Some, None, Json, null, number, string}
+use Rattle.programs.specs.chunkplan.Common.{ℕ, suc, Bool, true, false, List, [], length, codes, cond, decimal, nat_le, Option, Some, None, Json, null, number, string}
 use Rattle.programs.specs.chunkplan.Common.{array, object, Items, no_items, item, Members, no_members, member, print, json_tokens, Box, counted}
 use Rattle.programs.specs.chunkplan.Common.{Group, shifted, before_share, share_of, MemoryOrder, Part, ChunkChange, Share, order_text, Order, Source}
-use Rattle.programs.specs.chunkplan.Common.{Target}
+use Rattle.programs.specs.chunkplan.Common.{Target, TaskPlan}
 use Rattle.json.specs.Json.{boolean}
 use Rattle.zarrs_chunk_plan.specs.Bytes.{begins}
 use Rattle.zarrs_chunk_plan.specs.Strided.{Strided, ranges_of}
@@ -114,9 +114,10 @@ piece_json order first part =
     (member (codes "key") (string part.key)
     (member (codes "shape") (numbers_json part.shape.items) (whole_members order part))))))
 
-abbrev pub pieces_items : Order → (first : List ℕ) → List Part → Items
-pieces_items order first [] = no_items
-pieces_items order first (part ∷ parts) = item (piece_json order first part) (pieces_items order first parts)
+-- the items of a list, one for each part
+abbrev pub items_of : (Part → Json) → List Part → Items
+items_of json [] = no_items
+items_of json (part ∷ parts) = item (json part) (items_of json parts)
 
 -- the chunk that a line is for: its numbers, its key and its shape
 abbrev pub chunk_json : Part → Json
@@ -136,12 +137,12 @@ end_members at of to =
 -- all that is copied into a chunk of the target; or, in the order of the source, from one of the source
 abbrev pub group_json : Order → (at of : Option ℕ) → Group → Json
 group_json Target at of group =
-    object (member (codes "from") (array (pieces_items Target group.0.in_chunk.start group.1)) (end_members at of group.0))
+    object (member (codes "from") (array (items_of (piece_json Target group.0.in_chunk.start) group.1)) (end_members at of group.0))
 group_json Source at of group =
     object (member (codes "from") (chunk_json group.0)
     (member (codes "number") (count_json at)
     (member (codes "of") (count_json of)
-    (member (codes "to") (array (pieces_items Source group.0.in_chunk.start group.1)) no_members))))
+    (member (codes "to") (array (items_of (piece_json Source group.0.in_chunk.start) group.1)) no_members))))
 
 abbrev pub group_line : Order → (at of : Option ℕ) → Group → List ℕ
 group_line order at of group = line_of (group_json order at of group)
@@ -151,6 +152,39 @@ abbrev pub rechunking_lines : Order → Share → List Group → List ℕ
 rechunking_lines order share groups =
     lines_from (λ n. group_line order (counted n) (counted (length groups))) (before_share share.number share.of (length groups))
     (share_of share groups)
+
+-- ---- tasks
+
+-- of what a task writes, whether the part is all that its chunk has of the array, so that the chunk needn't be read first
+abbrev pub whole_if : (written : Bool) → Part → Members
+whole_if true part = member (codes "whole") (boolean part.whole) no_members
+whole_if false part = no_members
+
+-- what a chunk and the buffer of a task share: the chunk, the box in the buffer, the box in the chunk, and the chunk's key and shape
+abbrev pub overlap_json : (written : Bool) → Part → Json
+overlap_json written part =
+    object (member (codes "chunk") (numbers_json part.chunk.items)
+    (member (codes "in_buffer") (box_json part.in_subset)
+    (member (codes "in_chunk") (box_json part.in_chunk)
+    (member (codes "key") (string part.key)
+    (member (codes "shape") (numbers_json part.shape.items) (whole_if written part))))))
+
+-- a task: the shape of its buffer, what is read into it, which task of how many it is, and what is written from it
+abbrev pub task_json : (at of : Option ℕ) → TaskPlan → Json
+task_json at of plan =
+    object (member (codes "buffer") (numbers_json plan.0.source.shape)
+    (member (codes "from") (array (items_of (overlap_json false) plan.1.0))
+    (member (codes "number") (count_json at)
+    (member (codes "of") (count_json of)
+    (member (codes "to") (array (items_of (overlap_json true) plan.1.1)) no_members)))))
+
+abbrev pub task_line : (at of : Option ℕ) → TaskPlan → List ℕ
+task_line at of plan = line_of (task_json at of plan)
+
+-- the lines of a share of the tasks, of which these are all
+abbrev pub task_lines : Share → List TaskPlan → List ℕ
+task_lines share plans =
+    lines_from (λ n. task_line (counted n) (counted (length plans))) (before_share share.number share.of (length plans)) (share_of share plans)
 
 -- ---- a resize
 

@@ -20,7 +20,8 @@ abbrev pub rules : List Rule
 rules =
     map (excludes (codes "resize"))
     (codes "target" ∷ codes "subset" ∷ codes "clip" ∷ codes "chunks" ∷ codes "at" ∷ codes "share" ∷ codes "counts" ∷ codes "keys" ∷ codes "order"
-    ∷ codes "item_size" ∷ codes "memory_order" ∷ codes "max_ranges" ∷ codes "max_elements" ∷ codes "stage" ∷ [])
+    ∷ codes "item_size" ∷ codes "memory_order" ∷ codes "max_ranges" ∷ codes "task_chunks" ∷ codes "max_elements"
+    ∷ codes "read_elements" ∷ codes "stage" ∷ [])
     ++ needs (codes "keep") (codes "resize")
     ∷ needs (codes "chunks") (codes "target")
     ∷ needs (codes "at") (codes "target")
@@ -34,9 +35,13 @@ rules =
     ++ map (excludes (codes "item_size")) (codes "target" ∷ codes "counts" ∷ [])
     ++ needs (codes "memory_order") (codes "item_size")
     ∷ needs (codes "max_ranges") (codes "item_size")
-    ∷ needs (codes "max_elements") (codes "target")
-    ∷ map (excludes (codes "max_elements")) (codes "subset" ∷ codes "chunks" ∷ codes "keys" ∷ codes "order" ∷ [])
-    ++ needs (codes "stage") (codes "max_elements")
+    ∷ needs (codes "task_chunks") (codes "target")
+    ∷ map (excludes (codes "task_chunks")) (codes "chunks" ∷ codes "keys" ∷ codes "max_elements" ∷ [])
+    ++ needs (codes "max_elements") (codes "target")
+    ∷ map (excludes (codes "max_elements")) (codes "chunks" ∷ codes "keys" ∷ codes "order" ∷ [])
+    ++ needs (codes "read_elements") (codes "max_elements")
+    ∷ needs (codes "stage") (codes "max_elements")
+    ∷ excludes (codes "stage") (codes "counts")
     ∷ excludes (codes "share") (codes "counts")
     ∷ []
 

@@ -1,28 +1,27 @@
 -- What the program writes for a document, or why it writes nothing.
-use Rattle.std.specs.Prelude.{◌≡◌, ◌≢◌, ◌↔◌, ◌⊎◌}
-use Rattle.programs.specs.chunkplan.Common.{ℕ, Bool, true, false, IsTrue, List, length, MatchOption, Option, None, Some, Result, Ok, Err, replicate}
-use Rattle.programs.specs.chunkplan.Common.{unwrap_or, Box, IsBox, IsEmptyBox, IsInside, lasts, Dimension, array_sizes, IsKey, default_keys, IsGrid}
-use Rattle.programs.specs.chunkplan.Common.{IsGridFault, grid_kind, regular, AreCopyCounts, AreReadCounts, AreTargets, Group, IsRechunking}
-use Rattle.programs.specs.chunkplan.Common.{all_chunks_box, array_box, AnyChunk, IsRegionCopy, IsRegionFault, moved, FindsShape, HoldAtMost}
-use Rattle.programs.specs.chunkplan.Common.{IsBoundFault, IsLargest, IsStagesFault, RegionError, Counts, Part, ChunkChange, Share, made_of, then}
-use Rattle.programs.specs.chunkplan.Common.{told, Stored, array_of, Order, Source, Target, Stage, First, Second, StagesCounts, RunFault, Copies}
-use Rattle.programs.specs.chunkplan.Common.{KeysOfLongDocument, NoShape, NotInOneStage, NotJson, ResizedGrid, Stages, SubsetDimensionality, Uncovered}
+use Rattle.std.specs.Prelude.{◌≡◌, ◌≢◌, ◌⊎◌}
+use Rattle.programs.specs.chunkplan.Common.{ℕ, Bool, true, false, List, length, Option, None, Some, Result, Ok, Err, replicate}
+use Rattle.programs.specs.chunkplan.Common.{unwrap_or, Box, IsBox, IsEmptyBox, IsInside, lasts, Dimension, array_sizes, IsKey, IsGrid}
+use Rattle.programs.specs.chunkplan.Common.{IsGridFault, AreCopyCounts, AreReadCounts, AreTargets, Group, IsRechunking}
+use Rattle.programs.specs.chunkplan.Common.{all_chunks_box, array_box, AnyChunk, IsRegionCopy, IsRegionFault, moved}
+use Rattle.programs.specs.chunkplan.Common.{RegionError, Counts, Part, ChunkChange, Share, made_of, then}
+use Rattle.programs.specs.chunkplan.Common.{told, Stored, array_of, Order, Source, Target, RunFault, Copies}
+use Rattle.programs.specs.chunkplan.Common.{KeysOfLongDocument, NotJson, ResizedGrid, SubsetDimensionality, Uncovered}
 use Rattle.zarrs_chunk_base.specs.Grid.{Grid}
 use Rattle.zarrs_chunk_base.specs.Refusal.{TellsLengths}
-use Rattle.zarrs_chunk_base.specs.declared.chunk_key_separator.ChunkKeySeparator.TheVariants.{Slash}
 use Rattle.zarrs_chunk_keys.specs.ChunkKey.{Encoding}
 use Rattle.zarrs_chunks.specs.Subsets.{HasNoHome}
 use Rattle.zarrs_chunk_plan.specs.Clip.{IsClipped}
 use Rattle.zarrs_chunk_parts.specs.Plan.{IsPlan}
 use Rattle.zarrs_chunk_plan.specs.Resize.{IsResizePlan}
-unfoldable use Rattle.zarrs_chunk_plan.specs.Stages.{bound_for}
 use Rattle.zarrs_chunk_plan.specs.declared.copy.copies_error.CopiesError.TheVariants.{Chunks}
 use Rattle.programs.specs.chunkplan.CountsLine.{IsCountsLine, IsStagesLine}
-use Rattle.programs.specs.chunkplan.Document.{Copying, Document, document_in, RangesWanted, Task, Wanted, by_source, copy_to, counts_wanted}
-use Rattle.programs.specs.chunkplan.Document.{into_chunks, lines_wanted, read_of, resize_to, to_region, within_bound}
+use Rattle.programs.specs.chunkplan.Document.{Copying, Document, document_in, RangesWanted, RegionWanted, Task, TaskChoice, Wanted, by_source, by_tasks}
+use Rattle.programs.specs.chunkplan.Document.{copy_to, counts_wanted, into_chunks, lines_wanted, read_of, resize_to, to_region}
 use Rattle.programs.specs.chunkplan.Keys.{AreKeys, HasKeysBehind, IsKeysFault, IsMissingText, behind_first, closed_lines, first_line}
-use Rattle.programs.specs.chunkplan.Line.{read_lines, rechunking_lines, resize_lines}
+use Rattle.programs.specs.chunkplan.Line.{read_lines, rechunking_lines, resize_lines, task_lines}
 use Rattle.programs.specs.chunkplan.RunFault.{of_create, of_region, of_target}
+use Rattle.programs.specs.chunkplan.Stages.{IsFaultOfSome, Stages, asked_in, number_asked, plans_in, stages_in}
 
 -- an array as it is stored: its grid and its encoding
 abbrev pub Array : Type 0
@@ -120,99 +119,36 @@ abbrev pub region_text : Wanted → (source : Array) → (region : Box) → (at 
 region_text wanted source region at target =
     made_of (region_of source region at target) (IsCopyText Target wanted source.0.dimensions target.0.dimensions region at AnyChunk)
 
--- ---- a rechunking of which a worker holds at most so many elements
+-- ---- tasks
 
--- a worker who makes any chunk of the target holds at most so many elements, whichever chunk of the source it reads; or may hold more
-abbrev pub FitsOneStage : (source target : List Dimension) → (most : ℕ) → Type 0
-FitsOneStage source target most = (largest other : List ℕ) × IsLargest source largest × IsLargest target other
-    × HoldAtMost (bound_for (array_sizes source) most) largest other
+-- what is written of the stages of a copy: a share of the lines of the stage that is asked for, or the line of the counts of all
+abbrev pub stages_text : (asked : Option ℕ) → Wanted → Stages → Result (List ℕ) RunFault → Type 0
+stages_text asked (lines_wanted share) stages r =
+    then (asked_in asked stages.1) (λ stage. made_of (plans_in stage) (λ plans text. text ≡ task_lines share plans)) r
+stages_text asked counts_wanted stages (Ok text) = IsStagesLine stages text
+stages_text asked counts_wanted stages (Err fault) = IsFaultOfSome stages.1 fault
 
-abbrev pub HoldsMore : (source target : List Dimension) → (most : ℕ) → Type 0
-HoldsMore source target most = (largest other : List ℕ) × IsLargest source largest × IsLargest target other
-    × (¬ HoldAtMost (bound_for (array_sizes source) most) largest other)
-
--- one stage fits; or not, or there is too much to go through to tell
-abbrev pub one_stage_in : (source target : List Dimension) → (most : ℕ) → Result (Unit {0}) RunFault → Type 0
-one_stage_in source target most (Ok _) = FitsOneStage source target most
-one_stage_in source target most (Err NotInOneStage) = HoldsMore source target most
-one_stage_in source target most (Err (Stages error)) = IsBoundFault source target error
-one_stage_in source target most (Err _) = ⊥
-
--- The grid of the intermediate array is the `regular` one of the array's sizes and of chunks of the shape that is found. Or no shape fits, or there is
--- too much to go through to find one.
-abbrev pub between_in : (source target : List Dimension) → (most : ℕ) → Result Grid RunFault → Type 0
-between_in source target most (Ok between) =
-    (shape : List ℕ) × FindsShape source target most (Some shape) × (grid_kind regular).makes between (array_sizes source) shape
-between_in source target most (Err NoShape) = FindsShape source target most None
-between_in source target most (Err (Stages error)) = IsStagesFault source target error
-between_in source target most (Err _) = ⊥
-
--- its keys
-abbrev pub between_keys : Encoding
-between_keys = default_keys Slash
-
--- what is written of the rechunking into all chunks of the target
-abbrev pub IsWholeText : Wanted → (source target : Array) → List ℕ → Type 0
-IsWholeText wanted source target text = rechunking_text Target wanted source (all_chunks_box target.0.dimensions) target (Ok text)
-
--- the counts of that rechunking
-pub record AreCountsOfAll (source target : Array) (counts : Counts) : Type 0 where
-  pub groups : List Group
-  pub is_rechunking : IsRechunking source.0.dimensions (IsKey source.1) target.0.dimensions (IsKey target.1) (all_chunks_box target.0.dimensions) groups
-  pub targets : Box
-  pub is_box : IsBox targets
-  pub are_targets : AreTargets target.0.dimensions (array_box target.0.dimensions) (IsInside (all_chunks_box target.0.dimensions)) targets
-  pub counted : AreCopyCounts source.0.dimensions target.0.dimensions (array_box target.0.dimensions) targets groups counts
-
-module _ (most : ℕ) (source target : Array) where
-  -- what is written of one of the two stages: from the source to the intermediate array, or from that to the target
-  abbrev pub IsStageText : Stage → Wanted → (between : Grid) → List ℕ → Type 0
-  IsStageText First wanted between = IsWholeText wanted source (between, between_keys)
-  IsStageText Second wanted between = IsWholeText wanted (between, between_keys) target
-
-  -- the counts of the two stages, by the intermediate array with this shape of chunks
-  pub record AreCountsBetween (stages : StagesCounts) : Type 0 where
-    pub finds : FindsShape source.0.dimensions target.0.dimensions most (Some stages.shape.items)
-    pub between : Grid
-    pub is_regular : (grid_kind regular).makes between (array_sizes source.0.dimensions) stages.shape.items
-    pub first : AreCountsOfAll source (between, between_keys) stages.first
-    pub second : AreCountsOfAll (between, between_keys) target stages.second
-
-  -- what is written where the counts of one stage and of two are wanted
-  pub record IsStagesCountsText (text : List ℕ) : Type 0 where
-    pub largest : List ℕ
-    pub is_largest : IsLargest source.0.dimensions largest
-    pub other : List ℕ
-    pub is_other : IsLargest target.0.dimensions other
-    pub fits : Bool
-    pub is_fits : IsTrue fits ↔ HoldAtMost (bound_for (array_sizes source.0.dimensions) most) largest other
-    pub one_stage : Counts
-    pub are_one : AreCountsOfAll source target one_stage
-    pub stages : Option StagesCounts
-    pub are_two : MatchOption stages (FindsShape source.0.dimensions target.0.dimensions most None) AreCountsBetween
-    pub is : IsStagesLine fits one_stage stages text
-
-  -- that, or that there is too much to go through to count both
-  abbrev pub stages_counts_text : Result (List ℕ) RunFault → Type 0
-  stages_counts_text (Ok text) = IsStagesCountsText text
-  stages_counts_text (Err (Stages error)) = IsStagesFault source.0.dimensions target.0.dimensions error
-  stages_counts_text (Err _) = ⊥
-
--- What is written of a rechunking of which a worker holds at most `most` elements. If a stage is asked for, it is that stage. Otherwise it is the lines
--- of one stage, which fits, or the counts of one stage and of two.
-abbrev pub within_text : (most : ℕ) → Option Stage → Wanted → (source target : Array) → Result (List ℕ) RunFault → Type 0
-within_text most (Some stage) wanted source target =
-    made_of (between_in source.0.dimensions target.0.dimensions most) (IsStageText most source target stage wanted)
-within_text most None (lines_wanted share) source target =
-    made_of (one_stage_in source.0.dimensions target.0.dimensions most) (λ _. IsWholeText (lines_wanted share) source target)
-within_text most None counts_wanted source target = stages_counts_text most source target
+-- so of the copy of a region, by the tasks that are asked for
+abbrev pub tasks_text : TaskChoice → Wanted → (source target : Array) → (region : Box) → (at : List ℕ) → Result (List ℕ) RunFault → Type 0
+tasks_text choice wanted source target region at =
+    then (stages_in choice source target region at) (stages_text (number_asked choice) wanted)
 
 -- ---- any copy
 
 -- the shape of the target: the array's own, but for a region
 abbrev pub target_shape : Copying → (own : List ℕ) → List ℕ
-target_shape (to_region shape region at) own = shape
+target_shape (to_region region) own = region.shape
+target_shape (by_tasks choice (Some region)) own = region.shape
 target_shape _ own = own
+
+-- the elements that tasks copy, a region or the whole array, and the index that is given for them
+abbrev pub elements_of : List Dimension → Option RegionWanted → Box
+elements_of ds (Some region) = region.elements
+elements_of ds None = array_box ds
+
+abbrev pub index_of : Option RegionWanted → Option (List ℕ)
+index_of (Some region) = region.at
+index_of None = None
 
 -- What is written of it. A rechunking in the order of the source is planned the other way round. For each chunk of the source it has what is copied
 -- into it from the chunks of the target, which is what it gives to them. No document asks for the counts of that.
@@ -220,8 +156,9 @@ abbrev pub copy_text : Copying → Wanted → (source target : Array) → Result
 copy_text (into_chunks chunks) wanted source target =
     rechunking_text Target wanted source (unwrap_or chunks (all_chunks_box target.0.dimensions)) target
 copy_text by_source wanted source target = rechunking_text Source wanted target (all_chunks_box source.0.dimensions) source
-copy_text (within_bound most stage) wanted source target = within_text most stage wanted source target
-copy_text (to_region shape region at) wanted source target = region_text wanted source region (begins_at region at) target
+copy_text (to_region region) wanted source target = region_text wanted source region.elements (begins_at region.elements region.at) target
+copy_text (by_tasks choice region) wanted source target =
+    tasks_text choice wanted source target (elements_of source.0.dimensions region) (begins_at (elements_of source.0.dimensions region) (index_of region))
 
 -- What is written of a share of a plan to this target if its store has the keys in some lines; or what is wrong with these keys.
 abbrev pub missing_text : Share → (bytes : List ℕ) → (target : Array) → List Group → Result (List ℕ) RunFault → Type 0
@@ -232,7 +169,7 @@ missing_text share bytes target groups (Err fault) = IsKeysFault groups bytes fa
 -- so of a rechunking in the order of the target, or of the copy of a region
 abbrev pub groups_of : Copying → (source target : Array) → Result (List Group) RunFault → Type 0
 groups_of (into_chunks chunks) source target = rechunking_of source (unwrap_or chunks (all_chunks_box target.0.dimensions)) target
-groups_of (to_region shape region at) source target = region_of source region (begins_at region at) target
+groups_of (to_region region) source target = region_of source region.elements (begins_at region.elements region.at) target
 groups_of _ source target = λ _. ⊥
 
 abbrev pub copy_beside : Copying → Share → (bytes : List ℕ) → (source target : Array) → Result (List ℕ) RunFault → Type 0

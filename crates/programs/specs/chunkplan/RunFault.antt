@@ -1,7 +1,7 @@
 -- The faults of what the programs share, as a run of this program tells them.
 use Rattle.programs.specs.chunkplan.Common.{Bool, true, false, RegionError, DocumentFault, RunFault, AtDimensionality, Encoding, Grid, Memory}
 use Rattle.programs.specs.chunkplan.Common.{Metadata, Missing, NotJson, NotObject, PastArray, PastTarget, Read, SubsetDimensionality}
-use Rattle.programs.specs.chunkplan.Common.{TargetDimensionality, TargetEncoding, TargetGrid, Write, WrongValue}
+use Rattle.programs.specs.chunkplan.Common.{TargetDimensionality, TargetEncoding, TargetGrid, TaskChunks, TasksError, Write, WrongValue}
 use Rattle.zarrs_chunk_base.specs.declared.refusal.Refusal.{Refusal}
 use Rattle.documents.specs.declared.stored.CreateFault.{CreateFault}
 use Rattle.streams.specs.declared.stream_fault.StreamFault.{StreamFault}
@@ -10,6 +10,7 @@ use Rattle.zarrs_chunk_plan.specs.declared.copy.region_error.RegionError.TheVari
 use Rattle.documents.specs.declared.document_fault.DocumentFault.TheVariants as document
 use Rattle.documents.specs.declared.stored.CreateFault.TheVariants as create
 use Rattle.streams.specs.declared.stream_fault.StreamFault.TheVariants as stream
+use Rattle.zarrs_chunk_tasks.specs.declared.tasks_error.TasksError.TheVariants as tasks
 
 -- the fault is that the input is no text of JSON
 abbrev pub is_not_json : RunFault → Bool
@@ -47,6 +48,11 @@ of_region (region.Target error) = TargetDimensionality error
 of_region (region.At error) = AtDimensionality error
 of_region region.PastSource = PastArray
 of_region region.PastTarget = PastTarget
+
+-- why a copy has no tasks
+abbrev pub of_tasks : TasksError → RunFault
+of_tasks (tasks.TaskChunks error) = TaskChunks error
+of_tasks (tasks.Region error) = of_region error
 
 -- and why a call stops that may be refused
 abbrev pub of_refusal : {E : Type 0} → (told : E → RunFault) → Refusal E → RunFault

@@ -1,8 +1,9 @@
 pub mod Added
-pub mod Between
 pub mod Digits
 pub mod Missing
 pub mod Opened
 pub mod Pieces
+pub mod PlannedTasks
 pub mod Reads
+pub mod Routes
 pub mod Steps

@@ -191,7 +191,7 @@ pub(crate) fn send_text<W: Write>(
 }
 
 /// The number after this one.
-fn following(number: Option<u64>) -> Option<u64>
+pub(crate) fn following(number: Option<u64>) -> Option<u64>
     ensures { (n : ℕ) → number ≡ counted n → result ≡ counted (suc n) }
 {
     match number {

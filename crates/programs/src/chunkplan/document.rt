@@ -1,9 +1,10 @@
 //! The program's document.
+ghost use Rattle.std.specs.Prelude.{◌≡◌};
 ghost use Rattle.programs.specs.chunkplan.Common.{None, option_map, view, IsRead, IsReadOr, stored_of, Memory, Unknown, UnknownOfTarget};
 ghost use Rattle.documents.specs.declared.document_fault.DocumentFault.TheVariants.{Memory as DocumentMemory};
 ghost use Rattle.programs.specs.chunkplan.Document.{checked_in, copying_in, document_in, document_of, form_in, known_in, object_of, of_array};
-ghost use Rattle.programs.specs.chunkplan.Document.{of_type, rechunking_in, rechunking_within, region_in, target_stored_in, task_in, task_of};
-ghost use Rattle.programs.specs.chunkplan.Document.{wanted_in, wanted_of};
+ghost use Rattle.programs.specs.chunkplan.Document.{of_type, rechunking_in, rechunking_with, region_in, target_stored_in, task_in, task_of};
+ghost use Rattle.programs.specs.chunkplan.Document.{choice_of, copying_of, region_asked_of, region_with, wanted_in, wanted_of};
 ghost use Rattle.programs.specs.chunkplan.Known.{known_members, zarr_json_members};
 
 use crate::chunkplan::RunFault;
@@ -11,12 +12,11 @@ use crate::chunkplan::known_members::{DOCUMENT, ZARR_JSON, agree, check_known};
 use crate::chunkplan::line::Order;
 use crate::chunkplan::member_rules::check_rules;
 use crate::chunkplan::members::{
-    member_box, member_flag, member_numbers, member_order, member_share, member_stage, read_box,
+    member_box, member_flag, member_numbers, member_order, member_share, read_box,
 };
 use crate::chunkplan::ranges::{RangesAsked, member_ranges};
-use documents::{
-    DocumentFault, Stored, check_members, optional_member, read_object, read_shape, take_stored,
-};
+use crate::chunkplan::task_choice::{TaskChoice, member_choice};
+use documents::{DocumentFault, Stored, check_members, read_object, read_shape, take_stored};
 use serde_json::Value;
 use std::alloc::Global;
 use zarrs_chunk_base::{ArraySubset, Refusal, take_member};
@@ -47,26 +47,21 @@ pub(crate) enum Copying {
     Chunks(Option<ArraySubset>),
     /// All, in the order of the source: a line for each of its chunks.
     BySource,
-    /// All, where a worker holds at most so many elements, or one of the two stages of that.
-    Within {
-        most: u64,
-        stage: Option<Stage>,
-    },
-    /// A region, a box of elements, to an array of this shape, to begin there at an index, or at 0.
-    Region {
-        shape: Vec<u64>,
-        region: ArraySubset,
-        at: Option<Vec<u64>>,
-    },
+    /// A region.
+    Region(RegionAsked),
+    /// All, or a region, in tasks.
+    Tasks(TaskChoice, Option<RegionAsked>),
 }
 
-/// One of the two stages of a rechunking by an intermediate array.
-#[derive(Clone, Copy, Drop)]
-pub(crate) enum Stage {
-    /// From the source to the intermediate array.
-    First,
-    /// From the intermediate array to the target.
-    Second,
+/// A region that is copied to another array.
+#[derive(Drop)]
+pub(crate) struct RegionAsked {
+    /// The shape of the other array.
+    pub(crate) shape: Vec<u64>,
+    /// The elements that are copied.
+    pub(crate) elements: ArraySubset,
+    /// The index at which they begin in the other array: 0 in each dimension, if none is given.
+    pub(crate) at: Option<Vec<u64>>,
 }
 
 /// What is wanted of a plan.
@@ -94,7 +89,7 @@ pub(crate) struct Document {
 /// # Errors
 /// The first that applies: the input is no JSON, or no object; a member isn't known; one is missing; one doesn't go with the others; one isn't of its
 /// form, of `shape`, `counts`, `share`, `keys`, `chunk_grid`, `chunk_key_encoding`, and of `resize` and `keep`, of `subset`, `clip` and byte ranges,
-/// of `target`, `max_elements`, `stage`, `order` and `chunks`, or of `target`, `subset` and `at`; before its own members, the target has one that
+/// of `target`, the tasks, `order` and `chunks`, or of `target`, `subset`, `at` and the tasks; before its own members, the target has one that
 /// isn't known, or is of another array, or for a region of another data type. Or out of memory.
 pub(crate) fn parse(alloc: Global, input: &[u8]) -> Result<Document, RunFault>
     ensures { IsReadOr Memory document_of (document_in input.now) result }
@@ -244,11 +239,8 @@ fn rechunking_to(alloc: Global, tree: &Value, mut target: Value) -> Result<Task,
 {
     check_target(alloc, tree, &target)?;
     let stored = take_target(alloc, &mut target)?;
-    match optional_member(alloc, tree, "max_elements")? {
-        Some(most) => {
-            let stage = member_stage(alloc, tree)?;
-            Ok(Task::Copy(stored, Copying::Within { most, stage }))
-        }
+    match member_choice(alloc, tree)? {
+        Some(choice) => Ok(Task::Copy(stored, Copying::Tasks(choice, None))),
         None => ordered(alloc, tree, stored),
     }
 }
@@ -256,7 +248,7 @@ fn rechunking_to(alloc: Global, tree: &Value, mut target: Value) -> Result<Task,
 /// The rechunking that a tree asks for in an order.
 fn ordered(alloc: Global, tree: &Value, stored: Stored) -> Result<Task, RunFault>
     ensures { IsReadOr Memory task_of
-        (rechunking_within (view tree.now) (stored_of stored) None) result }
+        (rechunking_with (view tree.now) (stored_of stored) None) result }
 {
     match member_order(tree)? {
         Order::Target => {
@@ -280,9 +272,26 @@ fn region_to(
     check_type(alloc, tree, &target)?;
     let shape = read_shape(alloc, &target, "target.shape")?;
     let target = take_target(alloc, &mut target)?;
-    let region = read_box(alloc, subset, "subset")?;
+    let elements = read_box(alloc, subset, "subset")?;
     let at = member_numbers(alloc, tree, "at")?;
-    Ok(Task::Copy(target, Copying::Region { shape, region, at }))
+    let choice = member_choice(alloc, tree)?;
+    let region = RegionAsked {
+        shape,
+        elements,
+        at,
+    };
+    Ok(Task::Copy(target, region_with(choice, region)))
+}
+
+/// What is copied of a region: by tasks, if they are asked for.
+fn region_with(choice: Option<TaskChoice>, region: RegionAsked) -> Copying
+    ensures { copying_of result ≡ region_with (option_map choice_of choice)
+        (region_asked_of region) }
+{
+    match choice {
+        Some(choice) => Copying::Tasks(choice, Some(region)),
+        None => Copying::Region(region),
+    }
 }
 
 /// How a target says that it is stored, which is taken out of it.

@@ -13,7 +13,7 @@ use zarrs_chunk_base::{ConfigurationFault, Refusal, refuse_unknown};
 pub(crate) const ZARR_JSON: usize = 11;
 
 /// What a document may have, first what stands in a `zarr.json`.
-pub(crate) const DOCUMENT: [&str; 27] = [
+pub(crate) const DOCUMENT: [&str; 29] = [
     "attributes",
     "chunk_grid",
     "chunk_key_encoding",
@@ -36,11 +36,13 @@ pub(crate) const DOCUMENT: [&str; 27] = [
     "max_ranges",
     "memory_order",
     "order",
+    "read_elements",
     "resize",
     "share",
     "stage",
     "subset",
     "target",
+    "task_chunks",
 ];
 
 /// A member that isn't known.

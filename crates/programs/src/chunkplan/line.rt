@@ -6,9 +6,10 @@ ghost use Rattle.json.specs.Token.{null, string};
 ghost use Rattle.programs.specs.chunkplan.Document.{ranges_asked_of};
 ghost use Rattle.programs.specs.chunkplan.Keys.{foreign_json};
 ghost use Rattle.programs.specs.chunkplan.Line.{box_json, change_line, change_word, count_json, held_json, held_shape_json, line_of, numbers_json};
-ghost use Rattle.programs.specs.chunkplan.Line.{chunk_json, part_json, place_name};
+ghost use Rattle.programs.specs.chunkplan.Line.{chunk_json, overlap_json, part_json, place_name};
 ghost use Rattle.programs.specs.chunkplan.seen.Added.{Adds};
-ghost use Rattle.programs.specs.chunkplan.seen.Pieces.{begin_of_line, comma_before, end_of_line, piece_text, ranges_tokens, text_as, whole_tokens};
+ghost use Rattle.programs.specs.chunkplan.seen.Pieces.{begin_of_line, begin_of_task, comma_before, end_of_line, end_of_task, item_text, middle_of_task};
+ghost use Rattle.programs.specs.chunkplan.seen.Pieces.{piece_text, ranges_tokens, text_as, whole_if_tokens, whole_tokens};
 ghost use Rattle.streams.specs.OneLine.{line_of as one_line_of};
 
 use crate::chunkplan::part_ranges::write_ranges;
@@ -38,6 +39,8 @@ pub(crate) enum Form<'a> {
     Line(Option<u64>, Option<RangesAsked>),
     /// As a piece of the line of this part of a chunk.
     Piece(Order, &'a Part),
+    /// As what a chunk and the buffer of a task share, which the task reads or, if this is `true`, writes.
+    Overlap(bool),
 }
 
 /// The text of a part, by its number in its walk.
@@ -55,6 +58,7 @@ pub(crate) fn part_text(
     match form {
         Form::Line(of, ranges) => part_line(alloc, part, number, of, &ranges),
         Form::Piece(order, of) => piece_text(alloc, part, number, order, of),
+        Form::Overlap(written) => overlap_text(alloc, part, number, written),
     }
 }
 
@@ -121,6 +125,83 @@ fn piece_text(
     write_whole_of_piece(&mut json, order, part)?;
     json.end_object()?;
     unbroken(alloc, &json.into_inner())
+}
+
+/// What a chunk and the buffer of a task share, as an item of a list, with a comma before it where it isn't the first.
+fn overlap_text(
+    alloc: Global,
+    part: &Part,
+    number: Option<u64>,
+    written: bool,
+) -> Result<Vec<u8>, AllocError>
+    ensures { IfOk result (λ text. text.items
+        ≡ item_text (overlap_json written) number part.now) }
+{
+    let mut json = Writer::new(begin_piece(alloc, number)?);
+    json.begin_object()?;
+    write_numbers(&mut json, "chunk", part.chunk.as_slice())?;
+    write_box(&mut json, "in_buffer", &part.in_subset)?;
+    write_box(&mut json, "in_chunk", &part.in_chunk)?;
+    write_key(&mut json, &part.key)?;
+    write_numbers(&mut json, "shape", part.shape.as_slice())?;
+    write_whole_if(&mut json, written, part)?;
+    json.end_object()?;
+    unbroken(alloc, &json.into_inner())
+}
+
+/// Writes the member `whole` of what a task writes.
+fn write_whole_if(json: &mut Writer, written: bool, part: &Part) -> Result<(), AllocError>
+    ensures { OnOk result (Adds json.old json.new (whole_if_tokens written part.now)) }
+{
+    if written {
+        return write_whole(json, part.whole);
+    }
+    Ok(())
+}
+
+/// The beginning of the line of a task, before what it reads.
+///
+/// # Errors
+/// Out of memory.
+pub(crate) fn task_begin(alloc: Global, buffer: &[u64]) -> Result<Vec<u8>, AllocError>
+    ensures { IfOk result (λ text. text.items ≡ begin_of_task buffer.now) }
+{
+    let mut json = Writer::new(Vec::with_capacity(alloc, LINE_LEN)?);
+    json.begin_object()?;
+    write_numbers(&mut json, "buffer", buffer)?;
+    json.key("from")?;
+    json.begin_array()?;
+    unbroken(alloc, &json.into_inner())
+}
+
+/// What stands in the line of a task between what it reads and what it writes.
+///
+/// # Errors
+/// Out of memory.
+pub(crate) fn task_middle(
+    alloc: Global,
+    number: Option<u64>,
+    of: Option<u64>,
+) -> Result<Vec<u8>, AllocError>
+    ensures { IfOk result (λ text. text.items ≡ middle_of_task number of) }
+{
+    let mut json = Writer::new(Vec::with_capacity(alloc, LINE_LEN)?);
+    json.end_array()?;
+    write_count(&mut json, "number", number)?;
+    write_count(&mut json, "of", of)?;
+    json.key("to")?;
+    json.begin_array()?;
+    unbroken(alloc, &json.into_inner())
+}
+
+/// The end of the line of a task.
+///
+/// # Errors
+/// Out of memory.
+pub(crate) fn task_end(alloc: Global) -> Result<Vec<u8>, AllocError>
+    ensures { IfOk result (λ text. text.items ≡ end_of_task) }
+{
+    end_of_source(alloc)
 }
 
 /// What the box of the line's chunk is called in a piece of the line.

@@ -22,7 +22,7 @@ pub enum MemberRule {
 }
 
 /// All rules, in the order in which a broken one is told.
-const RULES: [MemberRule; 38] = [
+const RULES: [MemberRule; 45] = [
     Excludes("resize", "target"),
     Excludes("resize", "subset"),
     Excludes("resize", "clip"),
@@ -35,7 +35,9 @@ const RULES: [MemberRule; 38] = [
     Excludes("resize", "item_size"),
     Excludes("resize", "memory_order"),
     Excludes("resize", "max_ranges"),
+    Excludes("resize", "task_chunks"),
     Excludes("resize", "max_elements"),
+    Excludes("resize", "read_elements"),
     Excludes("resize", "stage"),
     Needs("keep", "resize"),
     Needs("chunks", "target"),
@@ -54,12 +56,17 @@ const RULES: [MemberRule; 38] = [
     Excludes("item_size", "counts"),
     Needs("memory_order", "item_size"),
     Needs("max_ranges", "item_size"),
+    Needs("task_chunks", "target"),
+    Excludes("task_chunks", "chunks"),
+    Excludes("task_chunks", "keys"),
+    Excludes("task_chunks", "max_elements"),
     Needs("max_elements", "target"),
-    Excludes("max_elements", "subset"),
     Excludes("max_elements", "chunks"),
     Excludes("max_elements", "keys"),
     Excludes("max_elements", "order"),
+    Needs("read_elements", "max_elements"),
     Needs("stage", "max_elements"),
+    Excludes("stage", "counts"),
     Excludes("share", "counts"),
 ];
 

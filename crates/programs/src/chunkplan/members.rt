@@ -1,10 +1,9 @@
 //! What members of a document say, each in the form in which a document writes it.
-ghost use Rattle.programs.specs.chunkplan.Common.{codes, option_map, view, list_of, size_of, optional_in, IsRead, IsReadOr, Memory};
+ghost use Rattle.programs.specs.chunkplan.Common.{option_map, view, list_of, size_of, optional_in, IsRead, IsReadOr, Memory};
 ghost use Rattle.documents.specs.declared.document_fault.DocumentFault.TheVariants.{Memory as DocumentMemory};
-ghost use Rattle.programs.specs.chunkplan.Document.{box_in, box_of, flag_in, line_order_in, share_in, stage_of};
+ghost use Rattle.programs.specs.chunkplan.Document.{box_in, box_of, flag_in, line_order_in, share_in};
 
 use crate::chunkplan::RunFault;
-use crate::chunkplan::document::Stage;
 use crate::chunkplan::line::Order;
 use documents::{DocumentFault, optional_member};
 use serde_json::Value;
@@ -52,21 +51,6 @@ pub(crate) fn member_share(alloc: Global, tree: &Value) -> Result<Share, Documen
     match Share::new(number, of) {
         Some(share) => Ok(share),
         None => Err(DocumentFault::WrongValue("share")),
-    }
-}
-
-/// The stage that a document asks for, if it asks for one.
-pub(crate) fn member_stage(alloc: Global, tree: &Value) -> Result<Option<Stage>, DocumentFault>
-    ensures { IsReadOr DocumentMemory (λ stage. stage)
-        (optional_in stage_of (codes "stage") (view tree.now)) result }
-{
-    let Some(member) = tree.get("stage") else {
-        return Ok(None);
-    };
-    match u64::from_tree(alloc, member)? {
-        Some(1) => Ok(Some(Stage::First)),
-        Some(2) => Ok(Some(Stage::Second)),
-        _ => Err(DocumentFault::WrongValue("stage")),
     }
 }
 

@@ -10,7 +10,7 @@ ghost use Rattle.programs.specs.chunkplan.seen.Opened.{CanGiveCopies, OfGroups, 
 
 use crate::chunkplan::RunFault;
 use crate::chunkplan::copying::send_text;
-use crate::chunkplan::document::{Copying, Document, Task, Wanted};
+use crate::chunkplan::document::{Copying, Document, RegionAsked, Task, Wanted};
 use crate::chunkplan::keys::note_keys;
 use crate::chunkplan::line::Order;
 use crate::chunkplan::opened::{OpenedArray, OpenedCopies};
@@ -88,10 +88,10 @@ fn write_copy<R: Read, W: Write>(
             let walk = copies(alloc, array, target, &chunks)?;
             write_missing(alloc, walk, target, share, lines, reader, sink)
         }
-        Copying::Region { region, at, .. } => {
-            let at = or_zeros(alloc, at, region.dimensionality())?;
-            region.is_a_box();
-            let walk = copies_of_region(alloc, array, target, &region, &at)?;
+        Copying::Region(RegionAsked { elements, at, .. }) => {
+            let at = or_zeros(alloc, at, elements.dimensionality())?;
+            elements.is_a_box();
+            let walk = copies_of_region(alloc, array, target, &elements, &at)?;
             write_missing(alloc, walk, target, share, lines, reader, sink)
         }
         // Never: it is one of these two.

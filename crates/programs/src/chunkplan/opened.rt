@@ -1,6 +1,7 @@
 //! Arrays in a grid and under an encoding of the library's kinds, as a document stores them.
 use zarrs_chunk_keys::ChunkKeyEncoding;
 use zarrs_chunk_plan::{ChunkCopies, Copies, Parts, StoredArray};
+use zarrs_chunk_tasks::Tasks;
 use zarrs_chunks::ChunkGrid;
 
 /// An array.
@@ -20,3 +21,6 @@ pub(crate) type OpenedCopies<'a> = Copies<
 
 /// What one of these chunks takes.
 pub(crate) type OpenedGroup<'a> = ChunkCopies<'a, ChunkGrid, ChunkKeyEncoding>;
+
+/// A walk over the tasks of a copy.
+pub(crate) type OpenedTasks<'a> = Tasks<'a, ChunkGrid>;

@@ -4,9 +4,9 @@ ghost use Rattle.programs.specs.chunkplan.Common.{IfErr, IfOk, List, None, lengt
 ghost use Rattle.programs.specs.chunkplan.Common.{all_chunks_box, array_box, AreResized, all_targets, region_of, targets_to_come, IsReadOr};
 ghost use Rattle.programs.specs.chunkplan.Common.{stored_of, Memory, written};
 ghost use Rattle.programs.specs.chunkplan.CountsLine.{IsCountsLine};
-ghost use Rattle.programs.specs.chunkplan.Document.{copying_of, counts_wanted, document_of, lines_wanted, ranges_asked_of, wanted_of};
+ghost use Rattle.programs.specs.chunkplan.Document.{choice_of, region_asked_of, copying_of, counts_wanted, document_of, lines_wanted, ranges_asked_of, wanted_of};
 ghost use Rattle.programs.specs.chunkplan.Planned.{IsAsked, IsReadFault, IsResizeText, asked_text, read_text, rechunking_text, region_text};
-ghost use Rattle.programs.specs.chunkplan.Planned.{copy_text, resized_in, target_in, target_shape, text_of};
+ghost use Rattle.programs.specs.chunkplan.Planned.{copy_text, elements_of, index_of, resized_in, target_in, target_shape, tasks_text, text_of};
 ghost use Rattle.programs.specs.chunkplan.RunFault.{of_target as fault_of_target};
 ghost use Rattle.programs.specs.chunkplan.seen.Missing.{share_unless_stored};
 ghost use Rattle.programs.specs.chunkplan.seen.Opened.{CanGiveCopies, CopiesToCome, array_in, dimensions_in, dimensions_of, sizes_of};
@@ -14,12 +14,14 @@ ghost use Rattle.programs.specs.chunkplan.seen.Steps.{Leaves, StepLeaves};
 
 use crate::chunkplan::RunFault;
 use crate::chunkplan::copying::{send_text, write_changes, write_copies, write_parts};
-use crate::chunkplan::counting::counts_line;
-use crate::chunkplan::document::{Copying, Document, Task, Wanted};
+use crate::chunkplan::counting::{counts_line, stages_line};
+use crate::chunkplan::document::{Copying, Document, RegionAsked, Task, Wanted};
 use crate::chunkplan::line::{Form, Order};
 use crate::chunkplan::opened::{OpenedArray, OpenedCopies};
 use crate::chunkplan::ranges::RangesAsked;
-use crate::chunkplan::within::write_within;
+use crate::chunkplan::stages::{asked_stage, find_route, stages_of};
+use crate::chunkplan::task_choice::TaskChoice;
+use crate::chunkplan::task_lines::write_stage;
 use documents::{CreateFault, Stored};
 use std::alloc::{AllocError, Global};
 use std::io::Write;
@@ -35,8 +37,8 @@ use zarrs_chunks::{ChunkGrid, ChunkGridTraits};
 ///
 /// # Errors
 /// The grid or the encoding can't be made, or those of the target, or the grid of the new shape; the box has another number of dimensions, or no
-/// cover, where it isn't clipped; the region doesn't fit the two arrays; a line of one stage would hold too many elements, no intermediate array fits, or
-/// there is too much to go through for either; a write failed; or out of memory. Nothing has been written where it is none of the last two.
+/// cover, where it isn't clipped; the region doesn't fit the two arrays; no tasks fit, or there is no such stage, or there are several; a write failed; or
+/// out of memory. Nothing has been written where it is none of the last two.
 pub(crate) fn write_plan<W: Write>(
     alloc: Global,
     document: Document,
@@ -80,7 +82,7 @@ pub(crate) fn target_shape<'a>(copying: &'a Copying, own: &'a [u64]) -> &'a [u64
     ensures { result.now ≡ target_shape (copying_of copying.now) own.now }
 {
     match copying {
-        Copying::Region { shape, .. } => shape.as_slice(),
+        Copying::Region(region) | Copying::Tasks(_, Some(region)) => region.shape.as_slice(),
         _ => own,
     }
 }
@@ -317,12 +319,72 @@ fn write_copy<W: Write>(
             let order = Order::Source;
             write_rechunking(alloc, target, source, &chunks, order, wanted, sink)
         }
-        Copying::Within { most, stage } => {
-            write_within(alloc, source, target, most, stage, wanted, sink)
+        Copying::Region(RegionAsked { elements, at, .. }) => {
+            let at = or_zeros(alloc, at, elements.dimensionality())?;
+            write_region(alloc, source, target, &elements, &at, wanted, sink)
         }
-        Copying::Region { region, at, .. } => {
-            let at = or_zeros(alloc, at, region.dimensionality())?;
-            write_region(alloc, source, target, &region, &at, wanted, sink)
+        Copying::Tasks(choice, region) => {
+            let elements = elements_of(alloc, &region, &source.grid)?;
+            let at = or_zeros(alloc, index_of(region), elements.dimensionality())?;
+            write_tasks(alloc, source, target, elements, at, choice, wanted, sink)
+        }
+    }
+}
+
+/// The elements that tasks copy: the region, or the whole array.
+///
+/// # Errors
+/// Out of memory.
+fn elements_of(
+    alloc: Global,
+    region: &Option<RegionAsked>,
+    grid: &ChunkGrid,
+) -> Result<ArraySubset, AllocError>
+    ensures { IfOk result (λ elements. elements
+        ≡ elements_of (dimensions_in grid.now) (option_map region_asked_of region.now)) }
+{
+    match region {
+        Some(region) => Ok(region.elements.clone()?),
+        None => whole_array(alloc, grid),
+    }
+}
+
+/// The index that is given for them.
+fn index_of(region: Option<RegionAsked>) -> Option<Vec<u64>>
+    ensures { option_map (λ v. v.items) result ≡ index_of (option_map region_asked_of region) }
+{
+    match region {
+        Some(RegionAsked { at, .. }) => at,
+        None => None,
+    }
+}
+
+/// Sends the lines or the counts of the copy of a region by tasks.
+fn write_tasks<W: Write>(
+    alloc: Global,
+    source: &OpenedArray,
+    target: &OpenedArray,
+    region: ArraySubset,
+    at: Vec<u64>,
+    choice: TaskChoice,
+    wanted: &Wanted,
+    sink: &mut Sink<W>,
+) -> Result<(), RunFault>
+    ensures { Leaves (tasks_text (choice_of choice) (wanted_of wanted.now) (array_in source.now)
+        (array_in target.now) region at.items) result
+        (written W.contents sink.old) (written W.contents sink.new) }
+{
+    let asked = choice.stage();
+    let route = find_route(alloc, source, target, &region, &at, choice)?;
+    let stages = stages_of(alloc, source, target, region, at, &route)?;
+    match wanted {
+        Wanted::Lines(share) => {
+            let stage = asked_stage(&stages, asked)?;
+            write_stage(alloc, stage, share, sink)
+        }
+        Wanted::Counts => {
+            let line = stages_line(alloc, route.is_exact, &stages)?;
+            send_text(Ok(line), sink)
         }
     }
 }
@@ -432,7 +494,7 @@ fn write_resize<W: Write>(
 }
 
 /// A law: the sizes are numbers of 64 bits.
-fn fit(sizes: &[u64])
+pub(crate) fn fit(sizes: &[u64])
     ensures { AllFit sizes.now }
 {
     let _ = sizes;

@@ -1,12 +1,38 @@
 //! Products of numbers, in decimal digits, however large they are.
-ghost use Rattle.std.specs.Prelude.{◌≡◌, ◌+◌, ◌*◌, ◌<◌};
-ghost use Rattle.programs.specs.chunkplan.Common.{ℕ, IfOk, OnOk, IsNumeral, product};
-ghost use Rattle.programs.specs.chunkplan.seen.Digits.{AreDigits, HasText, value};
+ghost use Rattle.std.specs.Prelude.{◌≡◌, ◌+◌, ◌*◌, ◌<◌, ◌≤◌};
+ghost use Rattle.programs.specs.chunkplan.Common.{ℕ, IfOk, OnOk, IsNumeral, in_all, product};
+ghost use Rattle.programs.specs.chunkplan.seen.Digits.{AreDigits, HasText, count_along, value};
 
 use std::alloc::{AllocError, Global};
+use zarrs_chunk_tasks::CountsAlong;
 
-/// How many digits a number of 64 bits has at most.
-const LONGEST: usize = 20;
+/// How many digits a number of 128 bits has at most.
+const LONGEST: usize = 39;
+
+/// What is counted of tasks.
+#[derive(Clone, Copy)]
+pub(crate) enum Count {
+    ChunksRead,
+    ChunksWritten,
+    ElementsDecoded,
+    LargestTask,
+    Tasks,
+}
+
+impl Count {
+    /// The count along one dimension.
+    fn along(self, counts: &CountsAlong) -> u128
+        ensures { result ≡ count_along self counts.now }
+    {
+        match self {
+            Count::ChunksRead => counts.chunks_read as u128,
+            Count::ChunksWritten => counts.chunks_written as u128,
+            Count::ElementsDecoded => counts.elements_decoded,
+            Count::LargestTask => counts.largest_task as u128,
+            Count::Tasks => counts.tasks as u128,
+        }
+    }
+}
 
 /// The digits of a product, the first one first.
 ///
@@ -18,7 +44,26 @@ pub(crate) fn product_text(alloc: Global, factors: &[u64]) -> Result<Vec<u8>, Al
     let mut digits = Vec::with_capacity(alloc, 1)?;
     digits.push(1)?;
     for factor in factors {
-        digits = times(alloc, &digits, *factor)?;
+        digits = times(alloc, &digits, *factor as u128)?;
+    }
+    numeral(alloc, &digits)
+}
+
+/// The digits of a count of all tasks, which is the product of the counts along each dimension.
+///
+/// # Errors
+/// Out of memory.
+pub(crate) fn count_text(
+    alloc: Global,
+    along: &[CountsAlong],
+    count: Count,
+) -> Result<Vec<u8>, AllocError>
+    ensures { IfOk result (λ text. IsNumeral (in_all (count_along count) along.now) text.items) }
+{
+    let mut digits = Vec::with_capacity(alloc, 1)?;
+    digits.push(1)?;
+    for counts in along {
+        digits = times(alloc, &digits, count.along(counts))?;
     }
     numeral(alloc, &digits)
 }
@@ -27,7 +72,7 @@ pub(crate) fn product_text(alloc: Global, factors: &[u64]) -> Result<Vec<u8>, Al
 ///
 /// # Errors
 /// Out of memory.
-fn times(alloc: Global, digits: &[u8], factor: u64) -> Result<Vec<u8>, AllocError>
+fn times(alloc: Global, digits: &[u8], factor: u128) -> Result<Vec<u8>, AllocError>
     requires { AreDigits digits.now }
     ensures digits { IfOk result (λ more. AreDigits more.items) }
     ensures value { IfOk result (λ more. value more.items ≡ factor * value digits.now) }
@@ -35,15 +80,29 @@ fn times(alloc: Global, digits: &[u8], factor: u64) -> Result<Vec<u8>, AllocErro
     let mut more = Vec::with_capacity(alloc, digits.len() + LONGEST)?;
     let mut carry = 0;
     for digit in digits {
-        carry += *digit as u128 * factor as u128;
-        more.push((carry % 10) as u8)?;
-        carry /= 10;
+        let (one, tens) = digit_times(*digit, factor, carry);
+        more.push(one)?;
+        carry = tens;
     }
     while carry > 0 {
         more.push((carry % 10) as u8)?;
         carry /= 10;
     }
     Ok(more)
+}
+
+/// The last digit of a factor times a digit and what was carried, and what is carried on.
+fn digit_times(digit: u8, factor: u128, carry: u128) -> (u8, u128)
+    requires digit { digit < 10 }
+    requires carry { carry ≤ factor }
+    ensures last { result.0 < 10 }
+    ensures carried { result.1 ≤ factor }
+    ensures value { result.0 + 10 * result.1 ≡ carry + digit * factor }
+{
+    let digit = digit as u128;
+    let ones = carry % 10 + digit * (factor % 10);
+    let tens = carry / 10 + digit * (factor / 10);
+    ((ones % 10) as u8, tens + ones / 10)
 }
 
 /// The numeral of a number, of whose digits the last one comes first.

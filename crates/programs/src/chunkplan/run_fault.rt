@@ -1,7 +1,7 @@
 //! Why a run of the program stops.
 ghost use Rattle.std.specs.Prelude.{◌≡◌};
 ghost use Rattle.programs.specs.chunkplan.Common.{Copies, Memory};
-ghost use Rattle.programs.specs.chunkplan.RunFault.{of_create, of_document, of_refusal, of_region, of_stream};
+ghost use Rattle.programs.specs.chunkplan.RunFault.{of_create, of_document, of_refusal, of_region, of_stream, of_tasks};
 
 use crate::chunkplan::known_members::UnknownMember;
 use crate::chunkplan::member_rules::MemberRule;
@@ -12,7 +12,8 @@ use thiserror::Error;
 use zarrs_chunk_base::{
     ArraySubsetError, IncompatibleDimensionalityError, MetadataError, PluginCreateError, Refusal,
 };
-use zarrs_chunk_plan::{CopiesError, RegionError, StagesError};
+use zarrs_chunk_plan::{CopiesError, RegionError};
+use zarrs_chunk_tasks::TasksError;
 
 /// Why a run stops. Nothing has been written, except on `Write`, and on `Memory`, where a beginning of the plan may have been.
 #[derive(Debug, Drop, Error)]
@@ -92,15 +93,24 @@ pub enum RunFault {
     /// The box of the target's chunks has another number of dimensions than the target.
     #[error(transparent)]
     Copies(CopiesError),
-    /// A line of one stage would hold too many elements.
-    #[error("a line of one stage would hold more than `max_elements` elements: ask for `stage` 1 and then for `stage` 2, or for their `counts`")]
-    NotInOneStage,
-    /// No chunk shape that is tried for an intermediate array fits.
-    #[error("no chunk shape that is tried for an intermediate array holds few enough elements for `max_elements`: ask for more")]
-    NoShape,
-    /// There is too much to go through to tell how many elements a line holds, or to find an intermediate array.
-    #[error(transparent)]
-    Stages(StagesError),
+    /// There are more or fewer numbers of chunks a task than dimensions.
+    #[error("field `task_chunks`: {0}")]
+    TaskChunks(IncompatibleDimensionalityError),
+    /// No tasks hold so few elements.
+    #[error("field `max_elements`: no tasks hold so few elements; raise it")]
+    NoTasksFit,
+    /// There are too many chunks to choose tasks.
+    #[error("there are more than 131072 chunks along a dimension, too many to choose tasks: give `task_chunks` in place of `max_elements`")]
+    TooManyToChoose,
+    /// There are too many chunks to count tasks.
+    #[error("field `counts`: there are more than 1048576 chunks along a dimension, too many to count tasks")]
+    TooManyToCount,
+    /// The lines of one stage are asked for, but the copy has several.
+    #[error("the copy has several stages; ask for the lines of one with `stage`, or for `counts`, which lists them")]
+    SeveralStages,
+    /// The copy has fewer stages.
+    #[error("field `stage`: the copy has fewer stages; ask for `counts`, which lists them")]
+    NoSuchStage,
     /// The plan has more lines than there are bits for, one a line.
     #[error("field `keys`: the plan has more than 536870911 lines: plan the chunks of a smaller box with `chunks`, or a smaller region")]
     TooManyForKeys,
@@ -167,13 +177,34 @@ impl From<Refusal<RegionError>> for RunFault {
 
     fn from(refusal: Refusal<RegionError>) -> RunFault {
         match refusal {
-            Refusal::Refused(RegionError::Region(error)) => RunFault::SubsetDimensionality(error),
-            Refusal::Refused(RegionError::Target(error)) => RunFault::TargetDimensionality(error),
-            Refusal::Refused(RegionError::At(error)) => RunFault::AtDimensionality(error),
-            Refusal::Refused(RegionError::PastSource) => RunFault::PastArray,
-            Refusal::Refused(RegionError::PastTarget) => RunFault::PastTarget,
+            Refusal::Refused(error) => of_region(error),
             Refusal::Memory(_) => RunFault::Memory,
         }
+    }
+}
+
+impl From<Refusal<TasksError>> for RunFault {
+    ghost from_gives = { λ refusal fault. fault ≡ of_refusal of_tasks refusal };
+
+    fn from(refusal: Refusal<TasksError>) -> RunFault {
+        match refusal {
+            Refusal::Refused(TasksError::TaskChunks(error)) => RunFault::TaskChunks(error),
+            Refusal::Refused(TasksError::Region(error)) => of_region(error),
+            Refusal::Memory(_) => RunFault::Memory,
+        }
+    }
+}
+
+/// Why a region can't be copied.
+fn of_region(error: RegionError) -> RunFault
+    ensures { result ≡ of_region error }
+{
+    match error {
+        RegionError::Region(error) => RunFault::SubsetDimensionality(error),
+        RegionError::Target(error) => RunFault::TargetDimensionality(error),
+        RegionError::At(error) => RunFault::AtDimensionality(error),
+        RegionError::PastSource => RunFault::PastArray,
+        RegionError::PastTarget => RunFault::PastTarget,
     }
 }
 

@@ -2,12 +2,14 @@
 use Rattle.zarrs_chunk_plan.proofs.Common.{◌≡◌, ◌∙◌, ℕ, zero, suc, ◌+◌, ◌-◌, ◌*◌, ◌<◌, ◌≤◌, List, [], ◌∷◌, ◌++◌, Contains, drop, get_or, length}
 use Rattle.zarrs_chunk_plan.proofs.Common.{length-append, map, ap, ap₂, append-nil, append_assoc, arith, refl, subst, sym, ⊎_elim, drop-cons}
 use Rattle.zarrs_chunk_plan.proofs.Common.{length-map, begins, product, made_of, source_of, cases_lt, row_fits, Contains-append_cases}
-use Rattle.zarrs_chunk_plan.proofs.Common.{Contains-append_left, Contains-append_right, AllPairs}
+use Rattle.zarrs_chunk_plan.proofs.Common.{Contains-append_left, Contains-append_right, AllPairs, greatest, min}
+use Rattle.std.proofs.Common.{mul_comm}
 use Rattle.std.proofs.Math.Nat.{suc-mul}
 use Rattle.std.proofs.Math.Path.{fun_ext}
 use Rattle.std.proofs.lemmas.List.{get_or-append-add, get_or-map, get_or_append_left, map-id}
 use Rattle.std.proofs.lemmas.Simd.{map-map}
 use Rattle.zarrs_chunk_plan.specs.Bytes.{repeated}
+use Rattle.zarrs_chunk_plan.proofs.bytes.StoredOrder.{product_last}
 use Rattle.zarrs_chunk_plan.proofs.copy.Joined.{pairs_mapped, pairs_of_both}
 
 -- ---- one dimension
@@ -146,3 +148,16 @@ module _ (first : ℕ) where
       → Inner d counts strides ≡ repeated (get_or counts d 0) (get_or strides d 0) (Inner (suc d) counts strides)
   one_more_dimension counts strides d same within =
       ap₂ (λ cs ss. begins first cs ss) (drop-cons counts d 0 within) (drop-cons strides d 0 (omega arith))
+
+-- ---- a product, as far as it is counted
+
+-- a product that was cut at the greatest number, with a factor more
+capped_more : (so_far x : ℕ) → min (min greatest so_far * x) greatest ≡ min greatest (so_far * x)
+capped_more so_far zero = omega arith
+capped_more so_far (suc x) =
+    ⊎_elim (λ (more : greatest < so_far). let same : min greatest so_far ≡ greatest = omega arith in rw same (omega arith))
+    (λ (le : so_far ≤ greatest). let same : min greatest so_far ≡ so_far = omega arith in rw same (omega arith)) (cases_lt greatest so_far)
+
+-- the product of one number more
+pub one_more : (numbers : List ℕ) (n : ℕ) → min (min greatest (product numbers) * n) greatest ≡ min greatest (product (numbers ++ n ∷ []))
+one_more numbers n = capped_more (product numbers) n ∙ ap (min greatest) (mul_comm (product numbers) n ∙ sym (product_last numbers n))

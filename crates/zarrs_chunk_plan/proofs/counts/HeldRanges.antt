@@ -1,13 +1,22 @@
 -- The elements of the array that the chunks in a box hold.
 use Rattle.zarrs_chunk_plan.proofs.Common.{◌≡◌, ◌∙◌, ◌↔◌, ℕ, zero, suc, ◌+◌, ◌-◌, ◌<◌, ◌≤◌, ◌++◌, List, [], ◌∷◌, Contains, ap, arith, get_or, length}
-use Rattle.zarrs_chunk_plan.proofs.Common.{min, refl, AllByRecursion, AreWithin, Box, IsBox, IsEmptyBox, ends, lasts, Dimension, InBox, IsChain}
+use Rattle.zarrs_chunk_plan.proofs.Common.{min, refl, subst, sym, ⊎_elim, cases_lt, AllByRecursion, AreWithin, Box, IsBox, IsEmptyBox, ends, lasts, Dimension, InBox, IsChain}
 use Rattle.zarrs_chunk_plan.proofs.Common.{array_sizes, AllFit, greatest, Along, IsRange, AreBelow, head_some, tail_some, HoldsSome}
-use Rattle.std.proofs.lemmas.List.{length_push}
+use Rattle.std.proofs.lemmas.List.{get_or_append_left, get_or_push, length_push}
 use Rattle.zarrs_chunks.proofs.Chains.{in_chain}
 use Rattle.zarrs_chunks.proofs.Meeting.{lies_between, lies_within}
 use Rattle.zarrs_chunk_plan.specs.seen.Used.{IsHeldRange}
-use Rattle.zarrs_chunk_plan.proofs.two_stages.LargestChunks.{pushed}
 use Rattle.zarrs_chunk_plan.proofs.counts.OneDimension.{one}
+
+-- what holds of the members of a list, and of one more behind them
+pushed : {X : Type 0} (P : ℕ → X → Type 0) (xs : List X) (x e : X) (n : ℕ) → length xs ≡ n → ((k : ℕ) → k < n → P k (get_or xs k e)) → P n x
+    → (k : ℕ) → k < n + 1 → P k (get_or (xs ++ x ∷ []) k e)
+pushed P xs x e n long each last k within =
+    ⊎_elim (λ (before : k < n). subst (P k) (sym (get_or_append_left xs (x ∷ []) e k (omega arith))) (each k before))
+    (λ (past : n ≤ k).
+    let here : k ≡ n = omega arith in
+    subst (λ m. P m (get_or (xs ++ x ∷ []) m e)) (sym here) (subst (P n) (sym (get_or_push xs x e n long)) last))
+    (cases_lt k n)
 
 -- the size along a dimension
 pub size_along : (ds : List Dimension) (k : ℕ) → AllFit (array_sizes ds) → k < length ds

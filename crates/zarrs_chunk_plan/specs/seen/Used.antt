@@ -19,12 +19,6 @@ pub record IsHeldRange (d : Dimension) (first last start size : ℕ) : Type 0 wh
   pub some : 0 < size
   pub fits : start + size ≤ greatest
 
--- The longest of the first `many` chunks is `edge` elements long; 1 without chunks.
-pub record IsLongest (d : Dimension) (many edge : ℕ) : Type 0 where
-  pub of_none : many ≡ 0 → edge ≡ 1
-  pub is_one : 0 < many → (c : ℕ) × (c < many) × HasEdge d c edge
-  pub none_longer : (c other : ℕ) → c < many → HasEdge d c other → other ≤ edge
-
 -- the chunk holds elements of both arrays, begins and ends where it did, and so do the elements that it holds
 pub record KeptAlong (before after : Dimension) (c : ℕ) : Type 0 where
   pub some : HoldsSome before c

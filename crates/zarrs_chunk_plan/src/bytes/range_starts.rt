@@ -1,10 +1,10 @@
 //! Where byte ranges begin, one after another.
-ghost use Rattle.std.specs.Prelude.{◌≡◌, ◌≢◌, ◌+◌, ◌<◌, ◌≤◌, ◌⊎◌, IfOk, IfSome, MatchOption, None, length, map};
+ghost use Rattle.std.specs.Prelude.{◌≡◌, ◌≢◌, ◌+◌, ◌<◌, ◌≤◌, ◌⊎◌, IfOk, IfSome, MatchOption, None, length, map, min};
+ghost use Rattle.zarrs_chunk_base.specs.Greatest.{greatest};
 ghost use Rattle.zarrs_chunk_plan.specs.Bytes.{HasPast, begins, repeated};
 ghost use Rattle.zarrs_chunk_plan.specs.Counts.{product};
 
 use crate::bytes::ranges::ByteRanges;
-use crate::two_stages::tried::saturating_product;
 use std::alloc::{AllocError, Global};
 
 impl ByteRanges {
@@ -115,4 +115,15 @@ fn later(alloc: Global, numbers: &[u64], shift: u64) -> Result<Option<Vec<u64>>,
         }
     }
     Ok(Some(sums))
+}
+
+/// A product, as far as a number of 64 bits counts it.
+fn saturating_product(numbers: &[u64]) -> u64
+    ensures { result ≡ min greatest (product numbers.now) }
+{
+    let mut held = 1u64;
+    for number in numbers {
+        held = held.saturating_mul(*number);
+    }
+    held
 }

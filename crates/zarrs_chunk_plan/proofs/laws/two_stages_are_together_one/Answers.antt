@@ -1,4 +1,4 @@
-use Rattle.zarrs_chunk_plan.proofs.two_stages.StageLaws.{in_one, in_two}
+use Rattle.zarrs_chunk_plan.proofs.copy.TwoCopies.{in_one, in_two}
 use Rattle.zarrs_chunk_plan.proofs.laws.two_stages_are_together_one.Goals as goal
 
 pub returns : goal.returns

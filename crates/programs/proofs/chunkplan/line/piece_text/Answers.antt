@@ -1,5 +1,5 @@
 use Rattle.programs.proofs.chunkplan.Common.{◌≡◌, ◌∙◌, ◌++◌, ap, print, json_tokens, piece_json, comma_before, piece_text, unbroken}
-use Rattle.programs.proofs.chunkplan.Pieces.{piece_escaped, piece_tokens}
+use Rattle.programs.proofs.chunkplan.Pieces.{item_escaped, piece_tokens}
 use Rattle.programs.proofs.chunkplan.Tokens.{then, wrote}
 use Rattle.programs.proofs.chunkplan.line.piece_text.Goals as goal
 
@@ -23,5 +23,5 @@ returns c =
     let text : c.into_inner.result.items ≡ comma_before c.args.number ++ print (json_tokens (piece_json c.args.order first c.args.part.now)) =
     rw (piece_tokens c.args.order first c.args.part.now) printed in
     let same : unbroken c.deref.result.now ≡ piece_text c.args.order c.args.of.now c.args.number c.args.part.now =
-    ap unbroken (c.deref.ensures.value ∙ text) ∙ piece_escaped c.args.order c.args.of.now c.args.number c.args.part.now in
+    ap unbroken (c.deref.ensures.value ∙ text) ∙ item_escaped (piece_json c.args.order first) c.args.number c.args.part.now in
     rw same at c.unbroken.ensures

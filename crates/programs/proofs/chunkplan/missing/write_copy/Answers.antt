@@ -57,12 +57,12 @@ pub returns-in-Region : goal.returns-in-Region
 returns-in-Region g c =
     let array = c.args.array.now in
     let to = c.args.target.now in
-    let region = c.in-Region.region in
+    let region = c.in-Region.field-0.elements in
     let said = c.in_ok-walk-in-Region.ensures in
     let (targets, is_box, are, left) = said.targets in
     let first = c.deref.result.now in
-    let begins : first ≡ begins_at region (option_map (λ v. v.items) c.in-Region.at) = search rules in
-    let at = begins_at region (option_map (λ v. v.items) c.in-Region.at) in
+    let begins : first ≡ begins_at region (option_map (λ v. v.items) c.in-Region.field-0.at) = search rules in
+    let at = begins_at region (option_map (λ v. v.items) c.in-Region.field-0.at) in
     let walk = c.in_ok-walk-in-Region.walk in
     let planned : (groups : List Group) → CopiesToCome walk groups → region_of (array_in array) region at (array_in to) (Ok groups) = λ groups moves.
     subst (λ at. region_of (array_in array) region at (array_in to) (Ok groups)) begins
@@ -82,8 +82,8 @@ pub returns-in_err-walk-in-Region-clause-leaves : goal.returns-in_err-walk-in-Re
 returns-in_err-walk-in-Region-clause-leaves g c = λ bytes is.
     let array = array_in c.args.array.now in
     let to = array_in c.args.target.now in
-    let region = c.in-Region.region in
-    let at = begins_at region (option_map (λ v. v.items) c.in-Region.at) in
+    let region = c.in-Region.field-0.elements in
+    let at = begins_at region (option_map (λ v. v.items) c.in-Region.field-0.at) in
     let begins : c.deref.result.now ≡ at = search rules in
     let copying = copying_of c.args.copying in
     read_first (groups_of copying array to) (missing_text c.args.share.now bytes to) _ _ _ (groups_still copying array to) _ _

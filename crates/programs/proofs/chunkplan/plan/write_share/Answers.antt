@@ -1,8 +1,8 @@
-use Rattle.programs.proofs.chunkplan.Common.{◌≡◌, ◌∙◌, ap, inl, length, option_map, refl, sym, counted, before_share, share_of, all_targets}
-use Rattle.programs.proofs.chunkplan.Common.{lines_from}
+use Rattle.programs.proofs.chunkplan.Common.{◌≡◌, ◌∙◌, ap, inl, length, option_map, refl, sym, share_of, all_targets}
 use Rattle.programs.specs.chunkplan.seen.Missing.{line_unless_stored}
 use Rattle.programs.proofs.chunkplan.Begun.{copies_of_share, share_can_copy}
 use Rattle.programs.proofs.chunkplan.Exits.{handed}
+use Rattle.programs.proofs.chunkplan.SharedLines.{lines_of_share}
 use Rattle.programs.proofs.chunkplan.Steps.{text_follows}
 use Rattle.programs.proofs.chunkplan.plan.write_share.Goals as goal
 
@@ -31,11 +31,7 @@ returns g c =
     let count : length (all_targets walk) ≡ length all = ap length c.requires.all ∙ sym long in (
       all,
       come_all,
-      lines
-          ∙ ap (λ k. lines_from (λ n. line_unless_stored c.args.order (option_map (λ s. s.now) c.args.stored) (counted n) (counted k)) (before_share share.number share.of (length (all_targets walk))) groups)
-          (ap length shared.all ∙ count)
-          ∙ ap (λ k. lines_from (λ n. line_unless_stored c.args.order (option_map (λ s. s.now) c.args.stored) (counted n) (counted (length all))) (before_share share.number share.of k) groups) count
-          ∙ ap (λ gs. lines_from (λ n. line_unless_stored c.args.order (option_map (λ s. s.now) c.args.stored) (counted n) (counted (length all))) (before_share share.number share.of (length all)) gs)
-          (sym is_share),
+      lines_of_share (λ at of group. line_unless_stored c.args.order (option_map (λ s. s.now) c.args.stored) at of group) share all groups
+          (length (all_targets walk)) _ text (ap length shared.all ∙ count) count is_share lines,
     ))
     _ _ _ (c.write_copies.ensures _ shared.before)

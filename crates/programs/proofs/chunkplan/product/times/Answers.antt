@@ -1,11 +1,7 @@
-use Rattle.programs.proofs.chunkplan.Common.{◌≡◌, ◌∙◌, ◌+◌, ◌*◌, ◌/◌, ◌%◌, ◌<◌, ◌≤◌, ℕ, zero, suc, ap, drop, refl, slice_index_or, arith, drop_more}
+use Rattle.programs.proofs.chunkplan.Common.{◌≡◌, ◌∙◌, ◌+◌, ◌*◌, ◌/◌, ◌%◌, ap, drop, slice_index_or, arith, drop_more}
 use Rattle.programs.proofs.chunkplan.Common.{value, value_with}
-use Rattle.programs.proofs.chunkplan.Digits.{carried, digit_at, digits_pushed, value_pushed}
+use Rattle.programs.proofs.chunkplan.Digits.{carried, digits_pushed, value_pushed}
 use Rattle.programs.proofs.chunkplan.product.times.Goals as goal
-
-nine_times : (one factor : ℕ) → one < 10 → one * factor ≤ 9 * factor
-nine_times one zero below = omega arith
-nine_times one (suc factor) below = let rest = nine_times one factor below in omega arith
 
 pub loop-digit-preserved : goal.loop-digit-preserved
 loop-digit-preserved c =
@@ -13,15 +9,15 @@ loop-digit-preserved c =
     let digits = c.args.digits.now in
     let k = c.loop-digit.digit-index in
     let one = slice_index_or digits k 0 in
-    let below = digit_at digits k c.requires c.loop-digit-test.true in
-    let most = nine_times one c.args.factor below in
-    let sum = c.loop-digit.carry + one * c.args.factor in
-    let next = rw (drop_more digits k 0 c.loop-digit-test.true) at is in (
-      rw c.in_ok-push.ensures.items (digits_pushed c.loop-digit.more.items (sum % 10) are (omega arith)),
-      omega arith,
+    let last = c.digit_times-one.result.0 in
+    let next = c.digit_times-one.result.1 in
+    let said = c.digit_times-one.ensures in
+    let so_far = rw (drop_more digits k 0 c.loop-digit-test.true) at is in (
+      rw c.in_ok-push.ensures.items (digits_pushed c.loop-digit.more.items last are said.last),
+      said.carried,
       rw c.in_ok-push.ensures.items
-          (carried c.loop-digit.more.items c.loop-digit.carry c.args.factor one (value (drop (k + 1) digits)) sum
-          (c.args.factor * value digits) refl next),
+          (carried c.loop-digit.more.items c.loop-digit.carry c.args.factor one (value (drop (k + 1) digits)) last next (c.args.factor * value digits)
+          said.value so_far),
     )
 
 pub loop-carry-preserved : goal.loop-carry-preserved

@@ -1,4 +1,4 @@
-use Rattle.zarrs_chunk_plan.proofs.Common.{◌≡◌, ◌∙◌, ap, length, subst, replicate}
+use Rattle.zarrs_chunk_plan.proofs.Common.{◌≡◌, ◌∙◌, ap, length, replicate}
 use Rattle.zarrs_chunk_plan.proofs.resize.plan.uses_of.Goals as goal
 
 pub returns-clause-changed : goal.returns-clause-changed

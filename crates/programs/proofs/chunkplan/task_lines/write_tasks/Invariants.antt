@@ -1,0 +1,14 @@
+use Rattle.programs.proofs.chunkplan.Common.{◌≡◌, ℕ, length, counted, task_line, written}
+use Rattle.zarrs_chunk_tasks.specs.seen.Tasks.{all_groups}
+use Rattle.programs.specs.chunkplan.seen.Steps.{HasSent}
+use Rattle.programs.proofs.chunkplan.Numbered.{Came}
+use Rattle.programs.proofs.chunkplan.TasksBegun.{TasksHaveCome}
+use Rattle.programs.proofs.chunkplan.task_lines.write_tasks.Given as goal
+
+-- the next task has the number, and the lines of those that came were sent or are held back
+abbrev pub invariant-loop-task : goal.invariant-loop-task
+invariant-loop-task g l =
+    (begin : ℕ) → l.fn.first ≡ counted begin → (n : ℕ) × (l.number ≡ counted n)
+    × HasSent
+    (Came (λ n. task_line (counted n) (counted (length (all_groups l.fn.walk)))) begin (TasksHaveCome l.fn.source l.fn.target l.fn.walk l.task-iterator) n)
+    (written g.W.Write.contents l.initial.sink) (written g.W.Write.contents l.sink)

@@ -1,0 +1,131 @@
+//! Whether a copy has few enough chunks to choose its tasks, and to count them.
+ghost use Rattle.std.specs.Prelude.{◌≡◌, ◌<◌};
+ghost use Rattle.programs.specs.chunkplan.Common.{ℕ, Contains, IfOk, false, moved};
+ghost use Rattle.programs.specs.chunkplan.Stages.{HasMany, HaveMany, most_to_choose, most_to_count};
+ghost use Rattle.programs.specs.chunkplan.seen.Opened.{dimensions_in};
+
+use std::alloc::{AllocError, Global};
+use zarrs_chunk_base::{ArraySubset, Refusal};
+use zarrs_chunk_parts::expect_answer;
+use zarrs_chunk_plan::moved_box;
+use zarrs_chunks::{ChunkGrid, ChunkGridTraits};
+
+/// Up to how many chunks along a dimension tasks are chosen.
+const MOST_TO_CHOOSE: u64 = 1 << 17;
+
+/// Up to how many chunks along a dimension tasks are counted, or up to which edge in regular grids.
+const MOST_TO_COUNT: u64 = 1 << 20;
+
+/// Whether few enough chunks of the source hold some of a region, and of the target where it goes, to choose tasks.
+///
+/// # Errors
+/// Out of memory.
+pub(crate) fn can_choose(
+    alloc: Global,
+    source: &ChunkGrid,
+    target: &ChunkGrid,
+    region: &ArraySubset,
+    moved: &ArraySubset,
+) -> Result<bool, AllocError>
+    ensures { IfOk result (λ can. can ≡ false → HaveMany most_to_choose (dimensions_in source.now)
+        (dimensions_in target.now) region.now moved.now) }
+{
+    have_few(alloc, source, target, region, moved, MOST_TO_CHOOSE)
+}
+
+/// Whether at most `most` chunks of the source hold some of a region along each dimension, and of the target where it goes.
+///
+/// # Errors
+/// Out of memory.
+fn have_few(
+    alloc: Global,
+    source: &ChunkGrid,
+    target: &ChunkGrid,
+    region: &ArraySubset,
+    moved: &ArraySubset,
+    most: u64,
+) -> Result<bool, AllocError>
+    ensures { IfOk result (λ few. few ≡ false → HaveMany most (dimensions_in source.now)
+        (dimensions_in target.now) region.now moved.now) }
+{
+    let few = has_few(alloc, source, region, most)?;
+    if !few {
+        return Ok(false);
+    }
+    has_few(alloc, target, moved, most)
+}
+
+/// Whether few enough chunks of the source hold some of a region, and of the target where it goes from an index on, to count tasks. Along dimensions that are
+/// regular in both arrays short edges will do. A region that doesn't fit the arrays can be counted: it has no tasks.
+///
+/// # Errors
+/// Out of memory.
+pub(crate) fn can_count(
+    alloc: Global,
+    source: &ChunkGrid,
+    target: &ChunkGrid,
+    region: &ArraySubset,
+    at: &[u64],
+) -> Result<bool, AllocError>
+    ensures { IfOk result (λ can. can ≡ false → HaveMany most_to_count (dimensions_in source.now)
+        (dimensions_in target.now) region.now (moved at.now region.now)) }
+{
+    if have_short_edges(source, target) {
+        return Ok(true);
+    }
+    match moved_box(alloc, source, target, region, at) {
+        Ok(moved) => have_few(alloc, source, target, region, &moved, MOST_TO_COUNT),
+        Err(Refusal::Refused(_)) => Ok(true),
+        Err(Refusal::Memory(error)) => Err(error),
+    }
+}
+
+/// Whether both grids are regular along each dimension, with edges that are short enough to count tasks.
+fn have_short_edges(source: &ChunkGrid, target: &ChunkGrid) -> bool {
+    for dimension in 0..source.dimensionality() {
+        if !is_short(source, dimension) || !is_short(target, dimension) {
+            return false;
+        }
+    }
+    true
+}
+
+/// Whether a grid is regular along a dimension, with an edge that is short enough to count tasks.
+fn is_short(grid: &ChunkGrid, dimension: usize) -> bool {
+    match grid.regular_along(dimension) {
+        Some(edge) => edge.get() <= MOST_TO_COUNT,
+        None => false,
+    }
+}
+
+/// Whether at most `most` chunks hold some of a box of elements along each dimension.
+///
+/// # Errors
+/// Out of memory.
+fn has_few(
+    alloc: Global,
+    grid: &ChunkGrid,
+    elements: &ArraySubset,
+    most: u64,
+) -> Result<bool, AllocError>
+    ensures { IfOk result (λ few. few ≡ false → HasMany most (dimensions_in grid.now) elements.now) }
+{
+    elements.is_a_box();
+    if elements.is_empty() {
+        return Ok(true);
+    }
+    let cover = expect_answer(grid.chunks_in_array_subset(alloc, elements))?;
+    Ok(are_at_most(cover.shape(), most))
+}
+
+/// Whether all numbers are at most `most`.
+fn are_at_most(numbers: &[u64], most: u64) -> bool
+    ensures { result ≡ false → (n : ℕ) × Contains numbers.now n × (most < n) }
+{
+    for number in numbers {
+        if *number > most {
+            return false;
+        }
+    }
+    true
+}
