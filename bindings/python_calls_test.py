@@ -500,7 +500,7 @@ def counts(tally):
 
 
 def counts_of_program(tally):
-    """Counts beside those of `chunkplan`, where the program was built."""
+    """Compares counts with the tasks of `chunkplan`, if the program was built. A task writes one chunk, and reads one for each copy."""
     if not CHUNKPLAN.exists():
         return
     generator = Generator(9)
@@ -509,8 +509,10 @@ def counts_of_program(tally):
         grids = [generator.grid_over(shape, name) for name in generator.random.sample(["regular", "zarrs.regular_bounded", "rectilinear"], 2)]
         stored = [{"chunk_grid": grid, "chunk_key_encoding": "v2"} for grid in grids]
         ended = subprocess.run([CHUNKPLAN], input=json.dumps({"shape": shape, **stored[0], "target": stored[1], "counts": True}).encode(), capture_output=True)
-        found = Grid(shape, grids[0]).counts(Grid(shape, grids[1]))._asdict()
-        tally.same(f"counts of {shape} from {grids[0]} into {grids[1]}", found, json.loads(ended.stdout))
+        (stage,) = json.loads(ended.stdout)["stages"]
+        counts = Grid(shape, grids[0]).counts(Grid(shape, grids[1]))
+        found = {"chunks_read": counts.copies, "chunks_written": counts.lines, "elements_moved": counts.elements, "tasks": counts.lines}
+        tally.same(f"counts of {shape} from {grids[0]} into {grids[1]}", found, {name: stage[name] for name in found})
 
 
 def slabs(tally):
@@ -544,14 +546,17 @@ def of_program(tally):
         task = generator.random.randrange(tasks)
         document = {"shape": shape, **stored[0], "target": stored[1], "share": [task, tasks]}
         ended = subprocess.run([CHUNKPLAN], input=json.dumps(document).encode(), capture_output=True)
-        lines = [json.loads(line) for line in ended.stdout.splitlines()]
+        lines = [group_of(json.loads(line)) for line in ended.stdout.splitlines()]
         (grid, encoding), (target, target_encoding) = ((Grid(shape, one["chunk_grid"]), Encoding(one["chunk_key_encoding"])) for one in stored)
         found = [plain(copies) for copies in grid.copies(encoding, target, target_encoding, share=(task, tasks))]
-        for line in lines:
-            for part in [line, line["to"], *line["from"]]:
-                for name in ("number", "of", "whole", "shape"):
-                    part.pop(name, None)
         tally.same(f"{document} by chunkplan", (found, ended.returncode), (lines, 0))
+
+
+def group_of(line):
+    """What goes into the one chunk that a task of a rechunking writes: its buffer has the elements of the chunk, from the first one on."""
+    (to,) = line["to"]
+    sources = [{**{name: piece[name] for name in ("chunk", "in_chunk", "key")}, "in_target": piece["in_buffer"]} for piece in line["from"]]
+    return {"from": sources, "to": {name: to[name] for name in ("chunk", "key")}}
 
 
 # ---- selections

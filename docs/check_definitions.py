@@ -17,9 +17,9 @@ import sys
 ROOT = pathlib.Path(__file__).resolve().parent.parent
 PAGE = ROOT / "docs" / "DEFINITIONS.md"
 
-# A definition stands at the left margin, or inside a module of parameters, two spaces further right.
+# A definition stands at the left margin, or further right inside modules of parameters.
 DEFINITION = re.compile(
-    r"^(?:  )?(?:abbrev pub|pub abbrev|pub data|pub record|pub unfoldable|unfoldable pub) ([^\s({:]+)|^pub (?!use |mod )([^\s({:]+) *[:({]", re.M)
+    r"^ *(?:abbrev pub|pub abbrev|pub data|pub record|pub unfoldable|unfoldable pub) ([^\s({:]+)|^pub (?!use |mod )([^\s({:]+) *[:({]", re.M)
 # A case of a `data` type.
 CASE = re.compile(r"^  (?!pub )([^\s({:]+) : ", re.M)
 HEADING = re.compile(r"^## .*: `(\w+(?:::\w+)?)`$")

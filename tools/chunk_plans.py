@@ -1,5 +1,5 @@
-"""Plans of reads, rechunkings, copies of regions, tasks and resizes, element by element: each element is asked for its chunk and
-its place there. Reads, copies of regions, tasks and resizes of arrays that have too many are found by boxes, too.
+"""Plans of reads, copies and resizes, element by element: each element is asked for its chunk and its place there. Plans of
+arrays that have too many elements are found by boxes, too.
 
     python3 tools/chunk_plans.py [SEED]
 
@@ -12,7 +12,7 @@ import math
 import operator
 import sys
 
-from chunk_grids import Grid, counts_of, numbers_in
+from chunk_grids import Grid, counts_of, numbers_in, overlap
 from chunk_keys import Encoding
 from extensions import GREATEST, GRIDS, Refused
 from random_arrays import Generator
@@ -98,27 +98,15 @@ def read_by_boxes(grid, encoding, start, shape):
     ])  # fmt: skip
 
 
-def rechunk(source, target, chunks=None):
-    """The plan that moves an array from one grid with its encoding to another, into the chunks of a box or into all."""
-    whole = [0] * len(source[0].shape)
-    return copied(source, target, [whole, source[0].shape], whole, chunks)
-
-
 def region(source, target, box, at):
-    """The plan that copies a box of one array, which is a grid with its encoding, to another array, where it begins at an
-    index."""
-    return copied(source, target, box, at)
-
-
-def copied(source, target, box, at, chunks=None):
-    """The lines of both: each element of a box, and where it goes from the index on."""
+    """The copies of a box of one array, which is a grid with its encoding, to another array, where it begins at an index, by the
+    chunks of that array."""
     (grid, encoding), (target_grid, target_encoding) = source, target
 
     def moved():
         for steps in elements(box[1]):
             (read, in_source), (written, in_target) = home(grid, sums(box[0], steps)), home(target_grid, sums(at, steps))
-            if chunks is None or is_inside(written, *chunks):
-                yield (written, read), in_source, in_target
+            yield (written, read), in_source, in_target
 
     held = collections.Counter(home(target_grid, index)[0] for index in elements(target_grid.shape))
     copies = boxes(moved())
@@ -134,27 +122,6 @@ def copied(source, target, box, at, chunks=None):
         to = {"chunk": list(written), "key": target_encoding.key(written), "shape": written_shape[written]}
         given = sum(math.prod(source["in_target"][1]) for source in sources)
         lines.append({"from": sources, "to": to, "whole": given == held[written]})
-    return numbered(lines)
-
-
-def rechunk_by_source(source, target):
-    """The plan that moves an array in the order of the source: a line for each of its chunks, with what each chunk of the
-    target gets of it. One that gets all its elements of the array from one chunk is written whole by that one's line."""
-    (grid, encoding), (target_grid, target_encoding) = source, target
-    places = [(home(grid, index), home(target_grid, index)) for index in elements(grid.shape)]
-    givers = collections.defaultdict(set)
-    for (read, _), (written, _) in places:
-        givers[written].add(read)
-    copies = boxes(((read, written), in_source, in_target) for (read, in_source), (written, in_target) in places)
-    read_shape, written_shape = shapes(grid, [read for (read, _), *_ in copies]), shapes(target_grid, list(givers))
-    lines = []
-    for read, group in itertools.groupby(copies, key=lambda copy: copy[0][0]):
-        takers = [
-            {"chunk": list(written), "in_chunk": in_target, "in_source": in_source, "key": target_encoding.key(written),
-             "shape": written_shape[written], "whole": givers[written] == {read}}
-            for (_, written), in_source, in_target in group
-        ]  # fmt: skip
-        lines.append({"from": {"chunk": list(read), "key": encoding.key(read), "shape": read_shape[read]}, "to": takers})
     return numbered(lines)
 
 
@@ -203,12 +170,44 @@ def counts_of_tasks(lines, each, intermediate=None):
     }  # fmt: skip
 
 
+def arrays_of(document):
+    """Both arrays of a document of a copy: of each its grid and its encoding."""
+    ends = document, {"shape": document["shape"], **document["target"]}
+    return [(Grid(end["chunk_grid"], end["shape"]), Encoding(end["chunk_key_encoding"])) for end in ends]
+
+
+def region_asked(document):
+    """The box that a document copies, and the index at which it begins in the target."""
+    shape = document["shape"]
+    if "chunks" in document:
+        box = elements_of_chunks(arrays_of(document)[1][0], document["chunks"])
+        return box, box[0]
+    return document.get("subset", [[0] * len(shape), shape]), document.get("at", [0] * len(shape))
+
+
+def elements_of_chunks(grid, chunks):
+    """The box of the elements of an array that the chunks of a box hold."""
+    (first, count), start, shape = overlap(grid.written(grid), chunks), [], []
+    if 0 in count:
+        return grid.empty_box()
+    for dimension, number, numbers in zip(grid.dimensions, first, count):
+        start.append(dimension.start(number))
+        shape.append(min(dimension.end(number + numbers - 1), dimension.size) - start[-1])
+    return [start, shape]
+
+
+def copy(document, plan=tasks):
+    """The lines of a document of a copy by tasks: those of `task_chunks`, or of one chunk each. They are found by element, or by boxes."""
+    each = document.get("task_chunks", [1] * len(document["shape"]))
+    return plan(*arrays_of(document), *region_asked(document), each, document.get("order") == "source")
+
+
 def beside(lines, target, keys):
     """What is left of the lines of a plan where the target, which is a grid with its encoding, has these keys in its store;
     and the keys that are of no chunk that holds elements of its array."""
     grid, encoding = target
     held = {encoding.key(home(grid, index)[0]) for index in elements(grid.shape)}
-    left = [line for line in lines if not (line["whole"] and line["to"]["key"] in keys)]
+    left = [line for line in lines if not all(piece["whole"] and piece["key"] in keys for piece in line["to"])]
     return left + [{"foreign": key} for key in keys if key not in held]
 
 

@@ -153,10 +153,6 @@ class Array:
         of = self.random.choice([1, 2, 7, 1000, 2**32, GREATEST])
         return [self.random.choice([0, of // 2, of - 1]), of]
 
-    def task_chunks(self):
-        """How many neighbouring chunks a task takes along each dimension."""
-        return [min(power(self.random, self.random.choice([0, 2, 64])), GREATEST) for _ in self.shape]
-
     def bound(self):
         """A bound on the elements that a worker holds, near the sizes of the greatest chunks of both arrays."""
         chunks = [
@@ -165,6 +161,12 @@ class Array:
         ]
         both, greater = sum(chunks), max(chunks)
         return min(self.random.choice([both, both - 1, greater + power(self.random, 20), greater * power(self.random, 4), GREATEST]), GREATEST)
+
+    def tasks(self):
+        """Members by which a copy asks for its tasks."""
+        each = [min(power(self.random, self.random.choice([0, 2, 64])), GREATEST) for _ in self.shape]
+        members = {"task_chunks": each, "order": self.random.choice(["source", "target"])}
+        return {member: value for member, value in members.items() if not self.generator.one_in(4)}
 
     def region(self):
         """A box of the array that goes to another array of the same shape."""
@@ -186,7 +188,11 @@ def rechunking(array, **members):
 
 
 def by_tasks(array, **members):
-    return rechunking(array, task_chunks=array.task_chunks(), **members)
+    return rechunking(array, **array.tasks(), **members)
+
+
+def region_by_tasks(array, **members):
+    return {**array.region(), **array.tasks(), **members}
 
 
 def bound(array):
@@ -207,32 +213,31 @@ PLANS = {
     "share of a read": lambda array: {"share": array.share()},
     "counts of a read": lambda array: {"subset": array.box(), "counts": True},
     "rechunking": rechunking,
-    "rechunking into a box": lambda array: rechunking(array, chunks=array.chunks()),
-    "share of a rechunking": lambda array: rechunking(array, share=array.share()),
-    "rechunking by source": lambda array: rechunking(array, order="source"),
-    "share by source": lambda array: rechunking(array, order="source", share=array.share()),
-    "counts of a rechunking": lambda array: rechunking(array, counts=True),
-    "counts of a box of chunks": lambda array: rechunking(array, counts=True, chunks=array.chunks()),
+    "rechunking": rechunking,
     "tasks": by_tasks,
+    "tasks of a box of chunks": lambda array: by_tasks(array, chunks=array.chunks()),
     "share of tasks": lambda array: by_tasks(array, share=array.share()),
-    "tasks by source": lambda array: by_tasks(array, order="source"),
     "counts of tasks": lambda array: by_tasks(array, counts=True),
-    "tasks of a region": lambda array: {**array.region(), "task_chunks": array.task_chunks()},
+    "counts of a box of chunks": lambda array: by_tasks(array, counts=True, chunks=array.chunks()),
+    "keys of tasks": lambda array: by_tasks(array, keys=True),
+    "keys of a share": lambda array: by_tasks(array, keys=True, share=array.share()),
+    "keys of a box of chunks": lambda array: by_tasks(array, keys=True, chunks=array.chunks()),
+    "region": Array.region,
+    "tasks of a region": region_by_tasks,
+    "share of a region": lambda array: region_by_tasks(array, share=array.share()),
+    "counts of a region": lambda array: region_by_tasks(array, counts=True),
+    "keys of a region": lambda array: region_by_tasks(array, keys=True),
     "first stage": lambda array: bounded(array, stage=1),
+    "first stage of a box of chunks": lambda array: bounded(array, stage=1, chunks=array.chunks()),
     "share of a stage": lambda array: bounded(array, stage=1, share=array.share()),
+    "keys of a stage": lambda array: bounded(array, stage=1, keys=True),
     "counts of stages": lambda array: bounded(array, counts=True),
     "counts of stages of a region": lambda array: {**array.region(), **bound(array), "counts": True},
-    "region": Array.region,
-    "share of a region": lambda array: {**array.region(), "share": array.share()},
-    "counts of a region": lambda array: {**array.region(), "counts": True},
     "resize": lambda array: {"resize": array.resized},
     "resize with all chunks": lambda array: {"resize": array.resized, "keep": True},
-    "keys": lambda array: rechunking(array, keys=True),
-    "keys of a share": lambda array: rechunking(array, keys=True, share=array.share()),
-    "keys of a region": lambda array: {**array.region(), "keys": True},
 }
 # Tasks are chosen among shapes. In arrays of the other forms there can be very many, and the choice may take minutes.
-CHOSEN = ["first stage", "share of a stage", "counts of stages", "counts of stages of a region"]
+CHOSEN = [name for name in PLANS if "stage" in name]
 FORMS_CHOSEN = [few, huge, millions, flat]
 
 

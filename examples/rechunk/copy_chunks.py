@@ -2,26 +2,26 @@
 """Writes chunks of the target of a rechunking, or of the copy of a region, by the lines that `chunkplan` wrote, from
 standard input.
 
-    copy_chunks.py SOURCE TARGET [--subset START SHAPE [--at INDEX]] [--task-chunks COUNTS] [--alone] [--done FILE]
-                   [--resume FILE] [--cache MB] [--missing-is-an-error] [--no-sync]
+    copy_chunks.py SOURCE TARGET [--subset START SHAPE [--at INDEX]] [--by-source] [--task-chunks COUNTS] [--alone]
+                   [--done FILE] [--resume FILE] [--cache MB] [--missing-is-an-error] [--no-sync]
 
 SOURCE and TARGET are folders of Zarr arrays, of format 2 or 3; --subset and --at tell the region, as for `document_of.py`.
 A chunk of the target that holds elements beside the region is read first, and keeps them: two plans that give something
 to one chunk have to run one after the other.
 
-In a line of a task, it fills a buffer from chunks of the source, each read once, and writes it to chunks of the target. If the
-number of chunks of a task is given by --task-chunks, the number of each line is checked, too.
+A line is a task. The worker fills a buffer from chunks of the source, each read once, and writes it to chunks of the target. It
+refuses a line that isn't the task of its number. It takes --task-chunks and --by-source as `document_of.py` does. Without
+--task-chunks, it checks the number if the plan has a line for each chunk.
 
-In a rechunking in the order of the source, or by tasks of the source's chunks, several lines may write one chunk of the target.
-The worker reads that chunk, or begins it with the fill value, and writes it again. It does so only with --alone, since two
-workers that do so at once lose elements: a second worker with --alone is refused. Without it such a line is refused before
-anything of it is written.
+With --by-source, several lines may write one chunk of the target. The worker reads that chunk, or begins it with the fill value,
+and writes it again. It does so only with --alone, since two workers that do so at once lose elements: a second worker with
+--alone is refused. Without it such a line is refused before anything of it is written.
 
-When a line's chunks are in their places, the line's `number` and `of` are printed, as JSON, in the order of the source with
-`"order":"source"`, and of a task with `"order":"task"`. --done appends the same to a file, with a mark of what the line
-read and wrote. --resume passes over the lines that such a file has, and may name the same one. It does a line again if the
-line's chunks or the metadata were changed since. Where another program changed a chunk that several lines write, it refuses
-the line. --cache bounds the decoded chunks of the source that are kept, for lines of one chunk of the target each.
+When a line's chunks are in their places, its `number` and `of` are printed, as JSON. With --done the worker appends the same to
+a file, with a mark of what the line read and wrote. With --resume it passes over the lines that such a file has, which may be the
+same file. It does a line again if the line's chunks or the metadata were changed since. It refuses the line if another program
+changed a chunk that several lines write. The option --cache bounds the decoded chunks of the source that are kept for later
+lines. Only lines that write one chunk keep them, and with --cache 0 none.
 
 Numbers are said when the disk has the chunks too, some hundred at a time or once a second. With --no-sync they are said
 at once: then chunks that were done may be lost where the machine crashes, but not where a process does. If several lines write
@@ -52,7 +52,7 @@ import uuid
 
 import numpy
 
-from region import add_region, add_task_chunks, grouped, region_between
+from region import Region, add_region, add_task_chunks, grouped, region_between
 from stored_arrays import UNFINISHED, Refused, ended_by, identity_of, on_a_line, open_array
 
 
@@ -131,57 +131,20 @@ class Task:
     whether the line has all its elements, `shared` whether other lines write it too. `kept` says whether it has elements
     beside the region."""
 
-    def __init__(self, line, source, target, region, groups=None):
+    def __init__(self, line, source, target, region, counts=None, by_source=False):
         self.line, self.number, self.of = line, line["number"], line["of"]
-        self.order = "task" if "buffer" in line else "source" if isinstance(line["to"], list) else "target"
         self.target, self.region = target, region
-        read, written = [line["from"]] if self.order == "source" else line["from"], [line["to"]] if self.order == "target" else line["to"]
-        self.check_chunks(read, source, "source")
-        self.check_chunks(written, target, "target")
-        {"target": self.of_target, "source": self.of_source, "task": self.of_task}[self.order](read, written, source)
+        self.buffer, self.read, self.written = line["buffer"], line["from"], [dict(to) for to in line["to"]]
+        self.check_chunks(self.read, source, "source")
+        self.check_chunks(self.written, target, "target")
+        self.check(is_box((self.buffer, self.buffer), len(region.shape)), "its buffer isn't one of the array")
+        self.check(0 not in self.buffer and self.read and self.written, "it moves nothing")
+        self.check_pieces([*self.read, *self.written])
         self.check_boxes(source)
-        if self.order == "task" and groups:
-            chunk = self.written[0]["chunk"]
-            group = [number * edge // long for number, edge, long in zip(chunk, target.chunk_shape, groups.chunk_shape)]
-            is_numbered = (self.number, self.of) == (region.number_of(group, groups), region.count(groups))
-            self.check(is_numbered and self.box == region.given(group, groups), "it isn't the task of its number")
+        self.check_number(source if by_source else target, by_source, counts)
         for to in self.written:
             given, box = region.given(to["chunk"], target), in_array(target, to["chunk"], to["in_chunk"])
             to["shared"], to["kept"] = box != given, given != target.held(to["chunk"])
-
-    def of_target(self, read, written, source):
-        """A line of one chunk of the target: the buffer is what the region gives the chunk."""
-        to, count = written[0], self.region.count(self.target)
-        held, given = self.target.held(to["chunk"]), self.region.given(to["chunk"], self.target)
-        self.check(0 not in given[1], f"{to['key']} gets nothing")
-        self.check(self.of <= count, "it has another number of lines than the plan")
-        is_numbered = self.of < count or self.number == self.region.number_of(to["chunk"], self.target)
-        self.check(is_numbered, f"{to['key']} has another number in the whole plan")
-        self.buffer, begin = given[1], [first - least for first, least in zip(given[0], held[0])]
-        self.written = [{**to, "in_chunk": (begin, given[1]), "in_buffer": ([0] * len(begin), given[1]), "whole": self.line["whole"]}]
-        self.check_pieces(read, "in_target")
-        placed = [([first - least for first, least in zip(part["in_target"][0], begin)], part["in_target"][1]) for part in read]
-        self.read = [{**part, "in_buffer": box} for part, box in zip(read, placed)]
-
-    def of_source(self, read, written, source):
-        """A line of one chunk of the source: the buffer is what the chunk holds."""
-        giver = read[0]
-        self.check(source.shape == self.target.shape == self.region.shape, "it is one of the whole array, and not of a region")
-        is_numbered = (self.number, self.of) == (self.region.number_of(giver["chunk"], source), self.region.count(source))
-        self.check(is_numbered, f"{giver['key']} has another number in the plan")
-        self.buffer = source.held(giver["chunk"])[1]
-        all_of_it = [0] * len(self.buffer), self.buffer
-        self.read = [{**giver, "in_chunk": all_of_it, "in_buffer": all_of_it}]
-        self.check_pieces(written, "in_source")
-        self.written = [{**to, "in_buffer": to["in_source"]} for to in written]
-
-    def of_task(self, read, written, source):
-        """A line of a task, which says all itself."""
-        self.buffer, self.read, self.written = self.line["buffer"], read, [dict(to) for to in written]
-        self.check(is_box((self.buffer, self.buffer), len(self.region.shape)), "its buffer isn't one of the array")
-        self.check(0 not in self.buffer and self.read and self.written, "it moves nothing")
-        self.check(self.of <= max(math.prod(self.region.shape), 1), "it has another number of lines than the plan")
-        self.check_pieces([*read, *written], "in_buffer")
 
     def check(self, is_right, fault):
         if not is_right:
@@ -194,10 +157,23 @@ class Task:
             self.check(is_chunk(array, piece), f"{piece['key']} isn't a chunk of the {name}")
         self.check(len({tuple(piece["chunk"]) for piece in pieces}) == len(pieces), f"it names a chunk of the {name} twice")
 
-    def check_pieces(self, pieces, other):
+    def check_pieces(self, pieces):
         for piece in pieces:
-            boxes = all(is_box(piece[box], len(self.target.shape)) for box in ("in_chunk", other))
-            self.check(boxes and piece["in_chunk"][1] == piece[other][1], f"a box of {piece['key']} isn't one of the array")
+            boxes = all(is_box(piece[box], len(self.target.shape)) for box in ("in_chunk", "in_buffer"))
+            self.check(boxes and piece["in_chunk"][1] == piece["in_buffer"][1], f"a box of {piece['key']} isn't one of the array")
+
+    def check_number(self, array, is_source, counts):
+        """The line is the task of its number, in a plan whose tasks take `counts` chunks of an array. Without `counts`, only a plan of
+        one chunk a task is known, by how many lines it has."""
+        region, box = self.region, self.box
+        if is_source:
+            region, box = Region(region.start, region.shape, region.start), (region.in_source(box[0]), box[1])
+        groups = grouped(array, counts or [1] * len(array.shape))
+        group = [first // edge for first, edge in zip(box[0], groups.chunk_shape)]
+        is_numbered = self.number == region.number_of(group, groups) and self.of == region.count(groups)
+        is_known = counts is not None or self.of == region.count(groups)
+        self.check(not is_known or is_numbered and box == region.given(group, groups), "it isn't the task of its number")
+        self.check(self.of <= max(math.prod(region.shape), 1), "it has another number of lines than the plan")
 
     def check_boxes(self, source):
         """What is read fills the buffer, and what is written empties it. The boxes lie in different chunks, at the places of the
@@ -223,10 +199,10 @@ class Task:
             self.check(to["whole"] is has_all, f"`whole` doesn't say whether {to['key']} has elements besides, which would be lost")
 
 
-def task_of(text, source, target, region, groups=None):
-    """A line of a plan, checked against both arrays, and a line of a task against the groups of chunks, if they are known."""
+def task_of(text, source, target, region, counts=None, by_source=False):
+    """A line of a plan, checked against both arrays, and against how many chunks a task takes, if that is known."""
     try:
-        return Task(json.loads(text), source, target, region, groups)
+        return Task(json.loads(text), source, target, region, counts, by_source)
     except (ValueError, KeyError, TypeError, IndexError, AttributeError, RecursionError) as error:
         raise Refused(f"this is no line of a plan: {text[:60]!r}: {error!r}") from error
 
@@ -253,8 +229,8 @@ def fill(buffer, task, read):
 def filled(task, sources, target):
     """Makes each chunk of the target that a task writes, one after another, and yields which one it is. A chunk that is all of
     the buffer is made in its place, so a worker never holds both."""
-    read = sources.chunk if task.order == "target" else sources.once
-    if task.order == "target" or len(task.written) == 1 and task.buffer == target.chunk_shape:
+    read = sources.chunk if len(task.written) == 1 else sources.once
+    if len(task.written) == 1 and task.buffer == target.chunk_shape:
         to, chunk = task.written[0], target.new_chunk()
         begin(chunk, to, target)
         fill(chunk[slices(to["in_chunk"])], task, read)
@@ -329,8 +305,7 @@ class Record:
             say(self.file, json.dumps(what).encode() + b"\n")
 
     def add(self, task, mark):
-        order = {} if task.order == "target" else {"order": task.order}
-        self.waiting.append(({"number": task.number, "of": task.of, **order}, mark))
+        self.waiting.append(({"number": task.number, "of": task.of}, mark))
         if not self.sync or len(self.waiting) >= self.MOST or time.monotonic() - self.last > self.SECONDS:
             self.say_all()
 
@@ -378,10 +353,9 @@ def lines_in(file):
                     yield line
 
 
-def done_in(file, order="target"):
-    """The `number` and `of` of each line in an order that was done, each with its mark, by the lines of a file."""
-    of_order = (line for line in lines_in(file) if line.get("order", "target") == order)
-    numbered = (line for line in of_order if all(type(line.get(name)) is int for name in ("number", "of")))
+def done_in(file):
+    """The `number` and `of` of each line that was done, each with its mark, by the lines of a file."""
+    numbered = (line for line in lines_in(file) if all(type(line.get(name)) is int for name in ("number", "of")))
     return {(line["number"], line["of"]): line.get("mark") for line in numbered}
 
 
@@ -411,8 +385,8 @@ class Resumed:
 
     def __init__(self, file, source, target):
         self.file, self.source, self.target = file, source, target
-        self.done = {order: done_in(file, order) if file else {} for order in ("target", "source", "task")}
-        self.left = left_in(file) if self.done["source"] or self.done["task"] else {}
+        self.done = done_in(file) if file else {}
+        self.left = left_in(file) if file else {}
         self.became = {}  # of chunks that several lines write: nothing, or that it was lost or changed before this run
 
     def became_of(self, to):
@@ -424,8 +398,8 @@ class Resumed:
 
     def passes_over(self, task):
         """Whether a line needn't be done again. If a chunk that several lines write was lost or changed, all of them must be."""
-        mark = self.done[task.order].get((task.number, task.of))
-        gone = {to["key"]: self.became_of(to) for to in task.written if to["shared"] and self.done[task.order]}
+        mark = self.done.get((task.number, task.of))
+        gone = {to["key"]: self.became_of(to) for to in task.written if to["shared"] and self.done}
         if mark is None:
             return False
         for key, became in gone.items():
@@ -458,14 +432,13 @@ def copy(lines, source, target, region, words):
         if words.done and words.done != words.resume and any(lines_in(words.done)):
             raise Refused(f"{words.done} has lines of another run: go on from it by --resume, or name another file")
     resumed = Resumed(words.resume, source, target)
-    groups = words.task_chunks is not None and grouped(target, words.task_chunks)
     done, written, of = 0, 0, 0
     try:
         for text in lines:
             if text.startswith(FOREIGN):
                 print(on_a_line(f"copy_chunks.py: {target.folder} has a key that isn't its own: {text.strip()}"), file=sys.stderr)
                 continue
-            task = task_of(text, source, target, region, groups)
+            task = task_of(text, source, target, region, words.task_chunks, words.by_source)
             of = task.of
             if resumed.passes_over(task):
                 continue
@@ -498,6 +471,7 @@ def main():
     parser.add_argument("target", metavar="TARGET")
     add_region(parser)
     add_task_chunks(parser)
+    parser.add_argument("--by-source", action="store_true", help="the lines are tasks of the source's chunks")
     parser.add_argument("--alone", action="store_true", help="also change chunks that several lines give elements to: no other worker does")
     parser.add_argument("--done", metavar="FILE", help="append the number of each line that is done")
     parser.add_argument("--resume", metavar="FILE", help="pass over the lines that were done, by such a file")

@@ -17,7 +17,7 @@ class Region:
         return met(self.at, self.shape, target.chunk_shape)
 
     def count(self, target):
-        """How many chunks of the target it meets, which is how many lines its plan has."""
+        """How many chunks of the target it meets, which is how many tasks of one chunk it has."""
         return math.prod(self.chunks(target)[1])
 
     def number_of(self, chunk, target):

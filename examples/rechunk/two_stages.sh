@@ -28,7 +28,7 @@ stage() {
     local done=$room/done.$1 each
     each=$(task_chunks "$(($1 - 1))")
     "$PYTHON" "$tools/document_of.py" "$source" "$target" "${region[@]}" --max-elements "$most" --stage "$1" | "$CHUNKPLAN" |
-        "$PYTHON" "$tools/copy_chunks.py" "$2" "$3" "${part[@]}" "${@:4}" --task-chunks "$each" --done "$done" --resume "$done" > /dev/null
+        "$PYTHON" "$tools/copy_chunks.py" "$2" "$3" "${part[@]}" "${@:4}" --task-chunks "$each" --cache 0 --done "$done" --resume "$done" > /dev/null
     "$PYTHON" "$tools/check_done.py" "$3" "$done" "${part[@]}" --task-chunks "$each"
 }
 

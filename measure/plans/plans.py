@@ -37,8 +37,9 @@ def runs(ours, rust, shape):
 
 
 def counts(plan):
-    """How many lines a plan has, and how many copies: chunks of the source that stand in a line."""
-    return plan.count(b"\n"), plan.count(b'"in_target"')
+    """How many lines a plan has, and how many copies: chunks of the source in a line, which writes one chunk of the target."""
+    lines = plan.count(b"\n")
+    return lines, plan.count(b'"in_buffer"') - lines
 
 
 def instructions(command, given):

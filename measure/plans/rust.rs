@@ -8,10 +8,10 @@ struct Chunk {
     shape: Vec<u64>,
 }
 
-struct Source {
+struct Piece {
     chunk: Chunk,
     in_chunk: Vec<u64>,
-    in_target: Vec<u64>,
+    in_buffer: Vec<u64>,
     shape: Vec<u64>,
 }
 
@@ -51,16 +51,16 @@ fn list(numbers: &[u64]) -> String {
     format!("[{}]", numbers.join(","))
 }
 
-fn source(source: &Source) -> String {
+fn piece(piece: &Piece, whole: &str) -> String {
     format!(
-        "{{\"chunk\":{},\"in_chunk\":[{},{}],\"in_target\":[{},{}],\"key\":\"{}\",\"shape\":{}}}",
-        list(&source.chunk.chunk),
-        list(&source.in_chunk),
-        list(&source.shape),
-        list(&source.in_target),
-        list(&source.shape),
-        source.chunk.key,
-        list(&source.chunk.shape)
+        "{{\"chunk\":{},\"in_buffer\":[{},{}],\"in_chunk\":[{},{}],\"key\":\"{}\",\"shape\":{}{whole}}}",
+        list(&piece.chunk.chunk),
+        list(&piece.in_buffer),
+        list(&piece.shape),
+        list(&piece.in_chunk),
+        list(&piece.shape),
+        piece.chunk.key,
+        list(&piece.chunk.shape)
     )
 }
 
@@ -97,21 +97,28 @@ fn main() -> io::Result<()> {
             let high = from.iter().zip(edges).zip(&ends).map(|((chunk, edge), end)| ((chunk + 1) * edge).min(*end));
             let sizes: Vec<u64> = high.zip(&low).map(|(high, low)| high - low).collect();
             let read = chunk_of(&from, edges);
-            let (in_chunk, in_target) = (place_of(&read, &low), place_of(&written, &low));
-            sources.push(source(&Source {
+            let (in_chunk, in_buffer) = (place_of(&read, &low), place_of(&written, &low));
+            let from = Piece {
                 chunk: read,
                 in_chunk,
-                in_target,
+                in_buffer,
                 shape: sizes,
-            }));
+            };
+            sources.push(piece(&from, ""));
         }
+        let buffer: Vec<u64> = ends.iter().zip(&start).map(|(end, start)| end - start).collect();
+        let to = Piece {
+            chunk: written,
+            in_chunk: zeros.clone(),
+            in_buffer: zeros.clone(),
+            shape: buffer.clone(),
+        };
         writeln!(
             out,
-            "{{\"from\":[{}],\"number\":{number},\"of\":{of},\"to\":{{\"chunk\":{},\"key\":\"{}\",\"shape\":{}}},\"whole\":true}}",
+            "{{\"buffer\":{},\"from\":[{}],\"number\":{number},\"of\":{of},\"to\":[{}]}}",
+            list(&buffer),
             sources.join(","),
-            list(&written.chunk),
-            written.key,
-            list(&written.shape)
+            piece(&to, ",\"whole\":true")
         )?;
     }
     out.flush()

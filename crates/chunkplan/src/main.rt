@@ -1,22 +1,24 @@
 //! `chunkplan` writes what a read, a rechunking or the copy of a region of a Zarr array copies, or what becomes of its chunks when it is resized: a line
-//! for each chunk that is read, for each chunk of the target, or for each chunk that changes.
+//! for each chunk that is read, for each task, or for each chunk that changes.
 //!
-//! It reads one JSON document on standard input: an array's `shape`, `chunk_grid` and `chunk_key_encoding`, as in its `zarr.json`. With a `target`,
-//! which has a `chunk_grid` and a `chunk_key_encoding` of its own, the lines are those of a rechunking; its `chunks`, if it has any, is a box of the
-//! target's chunk numbers, and nothing is copied into others. With `subset` too, a box of elements, they are those of its copy to the target, whose
-//! `shape` is then that of an array of its own, to begin there at the index `at`. Without a `target` they are those of a read of `subset`, or of the
-//! whole array; with `clip` true, of what `subset` has of the array. A box is written as its start and its shape. With `resize`, the shape that the
-//! array is to get, the lines say which chunks have to be written, written again or deleted; with `keep` true, also which stay.
+//! It reads one JSON document on standard input: an array's `shape`, `chunk_grid` and `chunk_key_encoding`, as in its `zarr.json`. A box is written as
+//! its start and its shape. Without a `target` the lines are those of a read of the box `subset`, or of the whole array. With `clip` true the box is
+//! clipped to the array. `item_size` adds which bytes of an uncompressed chunk are read.
 //!
-//! A line has all that its chunk gets, and its number among the lines, so lines can be shared out in any way; `share`, a number and how many shares
-//! there are, takes of the lines the share with this number, counted from 0. With `counts` true there is one line in their place, of how much the plan
-//! copies, for who sizes tasks before they are planned. Neither goes with `resize`. With `keys` true, beside a `target`, the document is the first line, and
-//! each line behind it a key that the target's store has: the lines of what is there are left out, and keys that aren't the target's are told at the end.
-//! In a rechunking, `order` gives a line for each chunk of the source. In a read, `item_size` adds which bytes of an uncompressed chunk are wanted.
+//! With a `target`, which has a `chunk_grid` and a `chunk_key_encoding` of its own, the array is rechunked. `chunks` is a box of the target's chunk
+//! numbers: only elements of these chunks are copied. With `subset` too, this box is copied to the target, whose `shape` is then the shape of an array of
+//! its own, and begins there at the index `at`. Each line is a task. A task fills a buffer from chunks of the source, and writes it to chunks of the
+//! target. `task_chunks` says how many chunks of the target a task takes along each dimension, and 1 if it is absent. With `order` `source`, they are
+//! chunks of the source. `max_elements` bounds what a worker holds: the cheapest tasks are chosen, in one stage or in two. `read_elements` says what one
+//! read is worth, and `stage` gives the lines of one stage. With `keys` true the document is the first line, and each line after it a key of the store
+//! that is written. Tasks whose chunks are all there are left out, and keys of no chunk are reported at the end.
 //!
-//! With `task_chunks` or `max_elements` beside a `target`, each line is a task. A task fills a buffer from chunks of the source, and writes it to chunks of
-//! the target. `task_chunks` says how many chunks of the target a task takes along each dimension. `max_elements` bounds what a worker holds: the
-//! cheapest tasks are chosen, in one stage or in two. `read_elements` says what one read is worth, and `stage` gives the lines of one stage.
+//! With `resize`, the shape that the array gets, the lines say which chunks must be created, rewritten or deleted. With `keep` true they also say which
+//! stay.
+//!
+//! A line has all that its worker needs, and its number among the lines, so lines can be shared out in any way. `share`, a number and how many shares there
+//! are, gives the share with this number, counted from 0. With `counts` true there is one line in place of the plan: how much is read and written. Neither
+//! can be combined with `resize`.
 //!
 //! ```text
 //! {"shape":[4],"chunk_grid":{"name":"regular","configuration":{"chunk_shape":[3]}},
@@ -45,29 +47,32 @@ or what becomes of its chunks when it is resized, as JSON lines.
 Usage: chunkplan [--help | --version] < DOCUMENT > LINES
 
 Standard input is one JSON object: the `shape`, `chunk_grid` and
-`chunk_key_encoding` of an array, as in its zarr.json. With a `target`, which
-has a `chunk_grid` and a `chunk_key_encoding`, the lines are those of a
-rechunking; `chunks`, a box of the target's chunk numbers, narrows it. With a
-`subset` too they are those of its copy into the target, whose `shape` is then
-its own array's, to begin there at the index `at`. Without a `target` they are
-those of a read of `subset`, or of the whole array; with `clip` true, of what
-`subset` has of the array. A box is its start and its shape.
-With `resize`, the shape that the array is to get, the lines say which chunks
-have to be written, written again or deleted; with `keep` true, also which stay.
-`share`, a number and how many shares there are, takes of the lines the share
+`chunk_key_encoding` of an array, as in its zarr.json. A box is its start and
+its shape. Without a `target` the lines are those of a read of the box `subset`,
+or of the whole array. With `clip` true the box is clipped to the array.
+`item_size` adds which bytes of an uncompressed chunk are read.
+
+With a `target`, which has a `chunk_grid` and a `chunk_key_encoding`, the array
+is rechunked. `chunks` is a box of the target's chunk numbers: only elements of
+these chunks are copied. With a `subset` too, this box is copied into the
+target, whose `shape` is then its own array's, and begins there at the index
+`at`. Each line is a task: it fills a buffer from chunks of the source, and
+writes it to chunks of the target. `task_chunks` is how many chunks of the
+target a task takes along each dimension, 1 if it is absent. With `order`
+`source` they are chunks of the source. `max_elements` is how many elements a
+worker may hold: the cheapest tasks are chosen, in one stage or two.
+`read_elements` is what a read is worth, in elements; `stage`, 1 or 2, gives the
+lines of one stage. With `keys` true the document is the first line, and each
+line after it a key of the store that is written: tasks whose chunks are all
+there are left out, and keys of no chunk are reported at the end.
+
+With `resize`, the shape that the array gets, the lines say which chunks must be
+created, rewritten or deleted; with `keep` true, also which stay.
+
+`share`, a number and how many shares there are, gives the share of the lines
 with this number, counted from 0. With `counts` true one line is written in
-place of all: how many copies, elements, lines and source chunks there are.
-Neither goes with `resize`. With `keys` true, beside a `target`, the document is
-the first line, and each line behind it a key that the target's store has: what
-is there is left out, and keys that aren't the target's are told at the end.
-In a rechunking, `order` `source` gives a line for each chunk of the source.
-In a read, `item_size` adds which bytes of an uncompressed chunk are wanted.
-With `task_chunks` or `max_elements` beside a `target`, each line is a task: it
-fills a buffer from chunks of the source and writes it to chunks of the target.
-`task_chunks` is how many chunks of the target a task takes along each
-dimension. `max_elements` is how many elements a worker may hold: the cheapest
-tasks are chosen, in one stage or two. `read_elements` is what a read is worth,
-in elements; `stage`, 1 or 2, gives the lines of one stage.
+place of the plan: how much is read and written. Neither can be combined with
+`resize`.
 
   {\"shape\":[4],\"chunk_grid\":{\"name\":\"regular\",\"configuration\":
    {\"chunk_shape\":[3]}},\"chunk_key_encoding\":\"default\",\"subset\":[[1],[3]]}

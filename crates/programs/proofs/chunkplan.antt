@@ -19,7 +19,8 @@ pub mod RunOutcomes
 pub mod SharedLines
 pub mod StagePlans
 pub mod Steps
-pub mod StoredLines
+pub mod StoredParts
+pub mod StoredTasks
 pub mod TasksBegun
 pub mod Tokens
 pub mod Unended

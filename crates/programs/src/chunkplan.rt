@@ -1,5 +1,5 @@
-//! `chunkplan` writes what a read, a rechunking or the copy of a region of a Zarr array copies, a line for each chunk that is read or written, or
-//! what of that a store hasn't; or what a resize changes, a line for each chunk that has to be written, written again or deleted.
+//! `chunkplan` writes the plan of a read of a Zarr array, a line for each chunk. It writes the plan of a rechunking or of the copy of a region, a line for
+//! each task, or for each that a store lacks. And it writes the plan of a resize, a line for each chunk that must be created, rewritten or deleted.
 //!
 //! | Module | What it holds |
 //! |---|---|
@@ -13,10 +13,10 @@
 //! | `plan` | the plan that a document asks for |
 //! | `task_choice` | the tasks that a document wants |
 //! | `route` | the arrays by way of which a copy is made, and its stages |
-//! | `stages` | the stages of a copy by tasks |
+//! | `stages` | the elements of a copy, and its stages |
 //! | `few_chunks` | whether there are few enough chunks to choose tasks, and to count them |
 //! | `task_lines` | the lines of tasks, sent as they are made |
-//! | `copying` | the other lines of a plan, sent as they are made |
+//! | `copying` | parts and changes of chunks, sent as they are made |
 //! | `line` | one line |
 //! | `part_ranges` | the byte ranges of a part, as a line has them |
 //! | `counting` | the counts of a plan, and the counts of all stages of a copy by tasks, as one line |

@@ -31,7 +31,7 @@ const BESIDE_KEYS: &[u8] =
 2"#;
 
 const LINES_BESIDE_KEYS: &[u8] =
-    br#"{"from":[{"chunk":[0],"in_chunk":[[2],[1]],"in_target":[[0],[1]],"key":"0","shape":[3]},{"chunk":[1],"in_chunk":[[0],[1]],"in_target":[[1],[1]],"key":"1","shape":[3]}],"number":1,"of":2,"to":{"chunk":[1],"key":"1","shape":[2]},"whole":true}
+    br#"{"buffer":[2],"from":[{"chunk":[0],"in_buffer":[[0],[1]],"in_chunk":[[2],[1]],"key":"0","shape":[3]},{"chunk":[1],"in_buffer":[[1],[1]],"in_chunk":[[0],[1]],"key":"1","shape":[3]}],"number":1,"of":2,"to":[{"chunk":[1],"in_buffer":[[0],[2]],"in_chunk":[[0],[2]],"key":"1","shape":[2],"whole":true}]}
 {"foreign":".zarray"}
 {"foreign":"2"}
 "#;
@@ -47,13 +47,13 @@ const CHANGES: &[u8] =
     br#"{"chunk":[1],"key":"1","now":[[3],[2]],"now_shape":[3],"number":0,"of":1,"was":[[3],[1]],"was_shape":[3],"what":"rewrite"}
 "#;
 
-/// The same array, which is rechunked into chunks of two, in the order of the source.
+/// The same array, which is rechunked into chunks of two, by a task for each chunk of the source.
 const BY_SOURCE: &[u8] =
     br#"{"shape":[4],"chunk_grid":{"name":"regular","configuration":{"chunk_shape":[3]}},"chunk_key_encoding":"v2","order":"source","target":{"chunk_grid":{"name":"regular","configuration":{"chunk_shape":[2]}},"chunk_key_encoding":"v2"}}"#;
 
 const LINES_BY_SOURCE: &[u8] =
-    br#"{"from":{"chunk":[0],"key":"0","shape":[3]},"number":0,"of":2,"to":[{"chunk":[0],"in_chunk":[[0],[2]],"in_source":[[0],[2]],"key":"0","shape":[2],"whole":true},{"chunk":[1],"in_chunk":[[0],[1]],"in_source":[[2],[1]],"key":"1","shape":[2],"whole":false}]}
-{"from":{"chunk":[1],"key":"1","shape":[3]},"number":1,"of":2,"to":[{"chunk":[1],"in_chunk":[[1],[1]],"in_source":[[0],[1]],"key":"1","shape":[2],"whole":false}]}
+    br#"{"buffer":[3],"from":[{"chunk":[0],"in_buffer":[[0],[3]],"in_chunk":[[0],[3]],"key":"0","shape":[3]}],"number":0,"of":2,"to":[{"chunk":[0],"in_buffer":[[0],[2]],"in_chunk":[[0],[2]],"key":"0","shape":[2],"whole":true},{"chunk":[1],"in_buffer":[[2],[1]],"in_chunk":[[0],[1]],"key":"1","shape":[2],"whole":false}]}
+{"buffer":[1],"from":[{"chunk":[1],"in_buffer":[[0],[1]],"in_chunk":[[0],[1]],"key":"1","shape":[3]}],"number":1,"of":2,"to":[{"chunk":[1],"in_buffer":[[0],[1]],"in_chunk":[[1],[1]],"key":"1","shape":[2],"whole":false}]}
 "#;
 
 /// A reader of a document that fails after so many reads is told, and nothing is written then; the lines are, where it doesn't fail.

@@ -4,6 +4,7 @@ pub mod Clipped
 mod Common
 pub mod Copied
 pub mod HeldBoxes
+pub mod KnownMarks
 pub mod MetChunks
 pub mod MovedBoxes
 pub mod OneConfiguration

@@ -1,7 +1,7 @@
 -- Boxes that lie in an array.
 use Rattle.zarrs_chunk_plan.proofs.Common.{◌≡◌, ◌≢◌, ◌↔◌, ℕ, suc, ◌+◌, ◌≤◌, List, [], ◌∷◌, Contains, length, replicate, zip, refl, ap, arith, subst}
 use Rattle.zarrs_chunk_plan.proofs.Common.{sym, length-map, AllByRecursion, AreWithin, Box, IsBox, IsEmptyBox, Dimension, array_sizes, AllFit}
-use Rattle.zarrs_chunk_plan.proofs.Common.{AreBelow, array_box, CanBeMoved, EndWithin}
+use Rattle.zarrs_chunk_plan.proofs.Common.{AreBelow, array_box, CanBeMoved, EndWithin, lasts, zero_box, head_some, tail_some}
 use Rattle.zarrs_chunk_plan.specs.Region.{LiesIn}
 
 -- each range ends within the array exactly where all do
@@ -60,6 +60,26 @@ can_stay source target one_array = record {
   in_source = subst (LiesIn (array_box target)) (sym one_array) (whole_lies target);
   in_target = whole_lies target;
 }
+
+-- so does a box of which the last element is one of the array, and an empty one that begins at 0
+pub lasts_lie : (start shape sizes : List ℕ) → length start ≡ length shape → (¬ Contains shape 0) → AreBelow sizes (lasts start shape)
+    → EndWithin start shape sizes
+lasts_lie [] [] [] e some below = tt
+lasts_lie (s ∷ start) (n ∷ shape) (size ∷ sizes) e some below =
+    let here = head_some n shape some in
+    (omega (arith, here, below.0), lasts_lie start shape sizes (omega arith) (tail_some n shape some) below.1)
+lasts_lie [] [] (_ ∷ _) e some below = absurd below
+lasts_lie (_ ∷ _) (_ ∷ _) [] e some below = absurd below
+lasts_lie [] (_ ∷ _) _ e some below = absurd (omega arith)
+lasts_lie (_ ∷ _) [] _ e some below = absurd (omega arith)
+
+zeros_within : (sizes : List ℕ) → EndWithin (replicate (length sizes) 0) (replicate (length sizes) 0) sizes
+zeros_within [] = tt
+zeros_within (size ∷ sizes) = (omega arith, zeros_within sizes)
+
+pub zeros_lie : (ds : List Dimension) → LiesIn (zero_box (length ds)) (array_sizes ds)
+zeros_lie ds =
+    let many : length (array_sizes ds) ≡ length ds = length-map ds (λ (d : Dimension). d.array_size) in rw (sym many) (zeros_within (array_sizes ds))
 
 -- where an empty box lies there are dimensions
 pub lies_some : (ds : List Dimension) (b : Box) → LiesIn b (array_sizes ds) → IsEmptyBox b → length ds ≢ 0

@@ -1,13 +1,14 @@
 -- A rechunking: the copy of the whole array to where it is.
 -- Sources: Zarr V3 core, chunk grids and chunk key encodings; the plan is this library's own.
-use Rattle.std.specs.Prelude.{◌≡◌, ℕ, List, length, replicate}
+use Rattle.std.specs.Prelude.{◌≡◌, ◌↔◌, ℕ, List, length, replicate}
 use Rattle.std.specs.List.{AllPairs, Contains}
-use Rattle.zarrs_chunk_base.specs.ArraySubset.{Box, IsInside}
-use Rattle.zarrs_chunk_base.specs.Dimension.{Dimension, array_sizes, grid_sizes}
+use Rattle.zarrs_chunk_base.specs.ArraySubset.{Box, IsBox, IsInside}
+use Rattle.zarrs_chunk_base.specs.Dimension.{Dimension, InBox, array_sizes, grid_sizes}
+use Rattle.zarrs_chunk_axes.specs.InBounds.{AreBelow}
 use Rattle.zarrs_chunks.specs.Walks.{counted_from}
 use Rattle.zarrs_chunk_parts.specs.Plan.{Meets}
 use Rattle.zarrs_chunk_parts.specs.declared.part.Part.{Part}
-use Rattle.zarrs_chunk_plan.specs.Region.{AreMovedInto, IsCopy, MovesTo}
+use Rattle.zarrs_chunk_plan.specs.Region.{AreMovedInto, IsCopy, LiesIn, MovesTo}
 pub use Rattle.zarrs_chunk_plan.specs.Region.{AreTargets, Group, copies_of}
 
 -- the box of all elements of the array
@@ -17,6 +18,12 @@ array_box ds = record { start = replicate (length ds) 0; shape = array_sizes ds 
 -- the box of all chunk numbers that are counted
 abbrev pub all_chunks_box : List Dimension → Box
 all_chunks_box ds = record { start = replicate (length ds) 0; shape = grid_sizes ds }
+
+-- the box has the elements of the array that the chunks of a box of chunk numbers hold
+pub record AreElementsOf (ds : List Dimension) (chunks elements : Box) : Type 0 where
+  pub is_box : IsBox elements
+  pub lies : LiesIn elements (array_sizes ds)
+  pub held : (index : List ℕ) → IsInside elements index ↔ (AreBelow (array_sizes ds) index × ((chunk : List ℕ) × IsInside chunks chunk × InBox ds chunk index))
 
 module _ (source : List Dimension) (IsSourceKey : List ℕ → List ℕ → Type 0) (target : List Dimension) (IsTargetKey : List ℕ → List ℕ → Type 0) where
   -- what is copied into a chunk of the target

@@ -3,6 +3,7 @@
 //! | Module | What it holds |
 //! |---|---|
 //! | `chunk_copies` | the walk over what a rechunking copies, or what is copied of a region, a chunk of the target after another |
+//! | `chunk_elements` | the elements of an array that chunks hold |
 //! | `copies_error` | why a rechunking can't be planned |
 //! | `moved` | whether a box lies in an array; boxes that are shifted |
 //! | `rechunking` | `copies`: the plan of a rechunking |
@@ -11,6 +12,7 @@
 //! | `stored_chunks` | which chunks of the target a store has already, by the keys that it lists |
 
 pub(crate) mod chunk_copies;
+pub(crate) mod chunk_elements;
 pub(crate) mod copies_error;
 pub(crate) mod moved;
 pub(crate) mod rechunking;

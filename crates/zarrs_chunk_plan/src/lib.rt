@@ -42,6 +42,7 @@ mod stored_array;
 pub use boxes_from_zero::{all_chunks, whole_array};
 pub use bytes::ranges::{ByteRanges, MemoryOrder, byte_ranges};
 pub use copy::chunk_copies::{ChunkCopies, Copies};
+pub use copy::chunk_elements::elements_of_chunks;
 pub use copy::copies_error::CopiesError;
 pub use copy::moved::shifted_box;
 pub use copy::rechunking::copies;

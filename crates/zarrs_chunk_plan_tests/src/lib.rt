@@ -9,6 +9,7 @@
 //! | `cheapest` | the cheapest tasks of a copy |
 //! | `stages` | the cheapest stages of a copy |
 //! | `walks` | walks that stay ended, and that go to any part or group |
+//! | `elements` | the elements that chunks hold |
 //! | `marks` | which chunks of a plan a store has |
 //! | `refusals` | what no program asks for, since it plans one array at a time |
 //! | `laws` | the laws |
@@ -16,6 +17,8 @@
 
 #[cfg(test)]
 mod cheapest;
+#[cfg(test)]
+mod elements;
 #[cfg(test)]
 mod laws;
 #[cfg(test)]

@@ -1,14 +1,15 @@
--- The task of each group has its parts.
-use Rattle.std.proofs.Common.{◌∙◌, ℕ, List, sym}
+-- The task of each group has its parts, and writes where the region goes.
+use Rattle.std.proofs.Common.{◌∙◌, ℕ, Contains, List, refl, subst, sym}
 use Rattle.std.proofs.lemmas.List.{length-map}
 use Rattle.std.specs.Int.NonZero.{non_zero_u64_get}
 use Rattle.std.specs.List.{AllByRecursion}
 use Rattle.std.specs.declared.num.NonZeroU64.{NonZeroU64}
-use Rattle.zarrs_chunk_base.specs.ArraySubset.{Box}
+use Rattle.zarrs_chunk_base.specs.ArraySubset.{AreWithin, Box, IsInside}
 use Rattle.zarrs_chunk_base.specs.Dimension.{Dimension, IsChain, array_sizes}
 use Rattle.zarrs_chunk_base.specs.Greatest.{AllFit}
-use Rattle.zarrs_chunks.specs.Walks.{chunks_in}
-use Rattle.zarrs_chunks.proofs.ChunksInBoxes.{are_those_inside}
+use Rattle.zarrs_chunk_axes.specs.InBounds.{AreBelow}
+use Rattle.zarrs_chunks.specs.Walks.{chunks_in, counted_from}
+use Rattle.zarrs_chunks.proofs.ChunksInBoxes.{are_those_inside, lie_within, offset_of}
 use Rattle.zarrs_chunk_parts.specs.declared.part.Part.{Part}
 use Rattle.zarrs_chunk_plan.specs.Region.{LiesIn, moved}
 use Rattle.zarrs_chunk_plan.specs.seen.Parts.{HasKeys}
@@ -16,11 +17,11 @@ use Rattle.zarrs_chunk_plan.proofs.MovedBoxes.{box_within, within_below}
 use Rattle.zarrs_chunk_plan.proofs.Plans.{pair_of}
 use Rattle.zarrs_chunk_plan.proofs.SomePlan.{has_plan}
 use Rattle.zarrs_chunk_tasks.specs.Groups.{HoldsSomeOf}
-use Rattle.zarrs_chunk_tasks.specs.Tasks.{HasParts, HasTasks, IsTask, TaskPlan}
+use Rattle.zarrs_chunk_tasks.specs.Tasks.{AreTasksBySource, AreTasksByTarget, AreTheCopy, HasParts, HasTasks, IsTask, Moves, TaskPlan}
 use Rattle.zarrs_chunk_tasks.specs.declared.task.Task.{Task}
 use Rattle.zarrs_chunk_tasks.proofs.GroupBoxes.{numbers}
 use Rattle.zarrs_chunk_tasks.proofs.SomeTasks.{has_tasks}
-use Rattle.zarrs_chunk_tasks.proofs.TaskLaws.{chunks_of_source, chunks_of_target, lies_by_source, lies_by_target}
+use Rattle.zarrs_chunk_tasks.proofs.TaskLaws.{at_sizes, at_starts, chunks_of_source, chunks_of_target, copy_by_source, copy_by_target, lies_by_source, lies_by_target}
 
 module _ (source target : List Dimension) (IsSourceKey IsTargetKey : List ℕ → List ℕ → Type 0) (source_chains : AllByRecursion IsChain source)
     (target_chains : AllByRecursion IsChain target) (source_keys : HasKeys IsSourceKey) (target_keys : HasKeys IsTargetKey)
@@ -65,3 +66,26 @@ module _ (source target : List Dimension) (IsSourceKey IsTargetKey : List ℕ �
       let (lies, also) = lies_by_source source target region at (numbers each) has tasks are task in_tasks in
       let (parts, have) = has_parts task lies also in
       ((task, parts), is, have)
+
+-- ---- a task writes where the region goes
+
+module _ (source target : List Dimension) (region : Box) (at each : List ℕ) (has : HasTasks (array_sizes source) (array_sizes target) region at each)
+    (tasks : List Task) where
+  abbrev WriteInside : Type 0
+  WriteInside = (task : Task) → Contains tasks task → (to : List ℕ) → IsInside task.target to → IsInside (moved at region) to
+
+  goes_inside : AreTheCopy region at tasks → WriteInside
+  goes_inside copy task among to inside =
+      let (behind, below, is) = offset_of task.target.start task.target.shape to inside in
+      let from = counted_from task.source.start behind in
+      let moves : Moves task from to =
+      record { behind = behind; below = subst (λ shape. AreBelow shape behind) (sym (copy.one_shape task among)) below; from = refl; into = sym is } in
+      let goes = (copy.moved from to).1 (task, among, moves) in
+      let long = at_starts source target region at each has tasks ∙ sym (at_sizes source target region at each has tasks) in
+      subst (AreWithin at region.shape) (sym goes.into) (lie_within at region.shape goes.behind long goes.below)
+
+  pub inside_by_target : AllByRecursion IsChain target → AreTasksByTarget target each region at tasks → WriteInside
+  inside_by_target chains are = goes_inside (copy_by_target source target region at each has tasks chains are)
+
+  pub inside_by_source : AllByRecursion IsChain source → AreTasksBySource source each region at tasks → WriteInside
+  inside_by_source chains are = goes_inside (copy_by_source source target region at each has tasks chains are)

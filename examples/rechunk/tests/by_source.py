@@ -25,7 +25,7 @@ from copy_chunks import done_in, task_of
 from document_of import document_of
 from moves import FORMAT_3, TYPES, carry_out, disk_steps, edits, forget_some, is_refused, is_whole, make_2, random_elements, same, shapes, split, store, tool
 from region import region_between
-from regions import slices, stored
+from regions import assigned, is_assigned, met, slices, stored
 from stored_arrays import open_array
 
 if FORMAT_3:
@@ -53,7 +53,7 @@ def kinds(chunkplan, generator, count):
                 elements = forget_some(generator, ends[0], elements, fill)
                 plan = plan_of(chunkplan, *map(open_array, ends))
                 generator.shuffle(plan)
-                read = carry_out(plan, *ends, most=0)
+                read = carry_out(plan, *ends, most=0, by_source=True)
                 got = zarr.open_array(str(ends[1]), mode="r")[...] if formats[1] == 2 else format_3.read(ends[1], dtype, fill)
                 chunks = int(numpy.prod(open_array(ends[0]).grid()))
                 yield f"{formats}, move {number} of {dtype}, {shape}", same(elements, numpy.asarray(got)) and read == len(plan) == chunks
@@ -70,18 +70,25 @@ def lines(chunkplan, generator, count):
         plan = plan_of(chunkplan, source, target)
         wholes = {piece["whole"] for text in plan for piece in json.loads(text)["to"]}
         yield "pieces that are whole, and others", wholes == {True, False}
+
+        def task(text, part=region):
+            return task_of(text, source, target, part, [1, 1], True)
+
         for text in plan:
             line = json.loads(text)
-            yield text, task_of(text, source, target, region).line == line
+            yield text, task(text).line == line
             for edited in edits(line):
-                yield json.dumps(edited), is_refused(lambda: task_of(json.dumps(edited), source, target, region), "line")
+                yield json.dumps(edited), is_refused(lambda: task(json.dumps(edited)), "line")
             for end in range(len(text) - 1):
-                yield text[:end], is_refused(lambda: task_of(text[:end], source, target, region), "no line of a plan")
-        # where a region is copied, the whole array isn't, though this one is of as many elements
+                yield text[:end], is_refused(lambda: task(text[:end]), "no line of a plan")
+        # a line of the whole array isn't one of a region, though all its elements are in it
         part = region_between(source, target, [[0, 0], [12, 8]], [0, 0])
-        yield "beside a region", is_refused(lambda: task_of(plan[0], source, target, part), "not of a region")
-        told = tool("copy_chunks.py", *ends, "--alone", "--subset", "1,1", "9,7", input="".join(plan))
-        yield "the worker, beside a region", told.returncode == 1 and "not of a region" in told.stderr and not list(ends[1].glob("[0-9]*"))
+        yield "of a region", is_refused(lambda: task(plan[0], part), "it isn't the task of its number")
+        words = ["--by-source", "--task-chunks", "1,1", "--alone", "--subset", "0,0", "12,8"]
+        told = tool("copy_chunks.py", *ends, *words, input="".join(plan))
+        refused = told.returncode == 1 and "it isn't the task of its number" in told.stderr
+        yield "the worker, of a region", refused and not list(ends[1].glob("[0-9]*"))
+        yield "a line of the other order", is_refused(lambda: task_of(plan[1], source, target, region, [1, 1]), "it isn't the task of its number")
 
 
 def by_lines(chunkplan, source, target, *words):
@@ -105,14 +112,14 @@ def worker(chunkplan, generator, count):
         refused = told.returncode == 1 and "other lines write chunk 0/0, too" in told.stderr and told.stdout == ""
         yield "refused where others may write", refused and stored(ends[1]).keys() == {".zarray"}
         # a part of the lines, one of them once more, and then all
-        words = [*ends, "--alone", "--done", room / "done", "--resume", room / "done", "--verbose"]
+        words = [*ends, "--by-source", "--alone", "--done", room / "done", "--resume", room / "done", "--verbose"]
         first = tool("copy_chunks.py", *words, input="".join([plan[5], plan[2]]))
-        yield "two lines", first.stdout == "".join(f'{{"number": {number}, "of": 8, "order": "source"}}\n' for number in (5, 2))
+        yield "two lines", first.stdout == "".join(f'{{"number": {number}, "of": 8}}\n' for number in (5, 2))
         yield "each read once", "12 chunks written, 2 read" in first.stderr
         told = tool("check_done.py", ends[1], room / "done", "--by-source", ends[0])
         yield "six are missing", told.returncode == 1 and "6 of 8 chunks weren't done: 0.0, 1.0, 3.0, 4.0, 6.0, .." in told.stderr
         told = tool("check_done.py", ends[1], room / "done")
-        yield "and no line of the other order was done", told.returncode == 1 and "16 of 16 chunks weren't done" in told.stderr
+        yield "and no line of the other order was done", told.returncode == 1 and "lines of a plan of another length than 16" in told.stderr
         second = tool("copy_chunks.py", *words, input="".join(reversed(plan)))
         yield "the others", is_whole((first.stdout + second.stdout).splitlines()) and "6 read" in second.stderr
         yield "all elements", numpy.array_equal(zarr.open_array(str(ends[1]), mode="r")[...], elements)
@@ -146,9 +153,26 @@ def worker(chunkplan, generator, count):
         (ends[0] / "1.0").write_bytes(b"no")
         told = tool("copy_chunks.py", *ends, "--alone", input=plan[1])
         yield "a broken source", told.returncode == 1 and "chunk 1.0 of" in told.stderr and told.stdout == ""
-        for words in (("--keys",), ("--subset", "0,0", "9,9")):
-            run = subprocess.run([chunkplan], input=tool("document_of.py", *ends, "--by-source", *words).stdout, capture_output=True, text=True)
-            yield f"no plan {words}", (run.returncode, run.stdout) == (1, "") and "field `order` can't be combined with" in run.stderr
+        yield "by keys, a chunk that several lines write is never passed over", by_lines(chunkplan, *ends, "--keys") == plan
+
+
+def of_region(chunkplan, generator, count):
+    """A region in the order of the source, beside zarr-python's own assignment."""
+    with tempfile.TemporaryDirectory() as room:
+        ends, done = [pathlib.Path(room, name) for name in ("source", "target")], pathlib.Path(room, "done")
+        make_2(ends[0], [60, 50], [8, 50], dtype="<i4")[...] = numpy.arange(3000).reshape(60, 50)
+        array = make_2(ends[1], [70, 80], [17, 13], dtype=">i4", fill_value=-1, order="F", dimension_separator="/")
+        array[...] = -2 - numpy.arange(5600).reshape(70, 80)
+        shutil.rmtree(ends[1] / "1")  # of some chunks no element is stored
+        subset, at = [[5, 6], [20, 31]], [33, 29]
+        copied, before, words = assigned(*ends, subset, at), stored(ends[1]), ["--subset", "5,6", "20,31", "--at", "33,29"]
+        plan = by_lines(chunkplan, *ends, *words)
+        told = tool("copy_chunks.py", *ends, *words, "--by-source", "--alone", "--done", done, input="".join(reversed(plan)))
+        yield "its lines", told.returncode == 0 and len(plan) == 4
+        told = tool("check_done.py", ends[1], done, *words, "--by-source", ends[0])
+        yield "all were done", (told.returncode, told.stdout) == (0, "all 4 chunks were done\n")
+        shutil.rmtree(ends[1] / ".unfinished")
+        yield "its elements", is_assigned(ends[1], copied, before, met(ends[1], subset, at))
 
 
 def made_anew(chunkplan, generator, count):
@@ -213,6 +237,8 @@ def splits(chunkplan, generator, count):
             told.append(tool("copy_chunks.py", *ends, "--done", room / "done", input="".join(by_lines(chunkplan, *ends, "--share", task, 3))))
         yield "three shares", all(one.returncode == 0 for one in told) and is_whole((room / "done").read_text().splitlines())
         yield "all elements", numpy.array_equal(zarr.open_array(str(ends[1]), mode="r")[...], elements)
+        (ends[1] / "0.0").unlink()
+        yield "by keys, what is missing", by_lines(chunkplan, *ends, "--keys") == plan[:1]
 
 
 def killed(chunkplan, generator, count):
@@ -235,8 +261,8 @@ def killed(chunkplan, generator, count):
                 time.sleep(generator.random() / 2)
                 running.kill()
             source, got = open_array(ends[0]), zarr.open_array(str(ends[1]), mode="r")[...]
-            chunk_of = {n: json.loads(text)["from"]["chunk"] for n, text in enumerate(plan)}
-            boxes = [slices(*source.held(chunk_of[n])) for n, _ in done_in(room / "done", "source")]
+            chunk_of = {n: json.loads(text)["from"][0]["chunk"] for n, text in enumerate(plan)}
+            boxes = [slices(*source.held(chunk_of[n])) for n, _ in done_in(room / "done")]
             yield f"killed {number}: {len(boxes)} of {len(plan)} lines", all(numpy.array_equal(got[box], elements[box]) for box in boxes)
             left = subprocess.run(list(map(str, words)), input="".join(plan), capture_output=True, text=True)
             told = tool("check_done.py", ends[1], room / "done", "--by-source", ends[0])
@@ -245,4 +271,4 @@ def killed(chunkplan, generator, count):
 
 
 if __name__ == "__main__":
-    moves.main([kinds, lines, worker, made_anew, splits, killed])
+    moves.main([kinds, lines, worker, of_region, made_anew, splits, killed])

@@ -58,7 +58,7 @@ RESUMED = '--done "$ROOM/done" --resume "$ROOM/done"'
 TASKS = "--task-chunks 2,3"
 PIPES = {
     "target": f'{PLAN.format("")} | {WORKER.format(RESUMED)} && ./check_done.py "$TARGET" "$ROOM/done" $REGION',
-    "source": f'{PLAN.format("--by-source")} | {WORKER.format("--alone " + RESUMED)} && ./check_done.py "$TARGET" "$ROOM/done" --by-source "$SOURCE"',
+    "source": f'{PLAN.format("--by-source")} | {WORKER.format("--by-source --alone " + RESUMED)} && ./check_done.py "$TARGET" "$ROOM/done" $REGION --by-source "$SOURCE"',
     "tasks": f'{PLAN.format(TASKS)} | {WORKER.format(f"{TASKS} {RESUMED}")} && ./check_done.py "$TARGET" "$ROOM/done" $REGION {TASKS}',
     "keys": f'{PLAN.format("--keys")} | {WORKER.format("")} && ./verify.py "$SOURCE" "$TARGET"',
 }
@@ -68,7 +68,7 @@ WAYS = {
     **{name: f'engines/{name}.sh "$SOURCE" "$TARGET" "$ROOM" $AGAIN' for name in ENGINES},
     "two_stages": './two_stages.sh "$SOURCE" "$TARGET" "$ROOM" 400 $AGAIN',
 }
-WITH_REGION = ["target", "tasks", "two_stages", *ENGINES]
+WITH_REGION = ["target", "source", "tasks", "two_stages", *ENGINES]
 PATIENCE = 120  # seconds, for a run
 KILLS, IN_SOURCE, BETWEEN = ["process", "all"], ["removed", "cut", "edited"], ["next_day", "other_program", "lost"]
 IN_RUN = [*KILLS, *IN_SOURCE, "gone", "full", "read_only"]

@@ -149,13 +149,14 @@ def move(chunkplan, here, there, *asked):
     carry_out(plan_of(chunkplan, open_array(here), open_array(there), *asked), here, there, *asked)
 
 
-def carry_out(lines, here, there, *asked, most=10**6):
-    """Does the lines, and keeps decoded chunks up to a number of bytes. Returns how many chunks were read."""
+def carry_out(lines, here, there, *asked, most=10**6, **tasks):
+    """Does the lines, and keeps decoded chunks up to a number of bytes. Returns how many chunks were read. `tasks` says which
+    chunks a task takes, as for `task_of`."""
     source, target = open_array(here), open_array(there)
     region = region_between(source, target, *asked)
     sources = Sources(source, target, region, most)
     for text in lines:
-        for to, chunk in filled(task_of(text, source, target, region), sources, target):
+        for to, chunk in filled(task_of(text, source, target, region, **tasks), sources, target):
             path = target.path(to["chunk"])
             path.parent.mkdir(parents=True, exist_ok=True)
             path.write_bytes(target.encode(chunk))
@@ -319,11 +320,12 @@ def kinds(chunkplan, generator, moves):
 
 
 def broken_off(chunkplan, generator, moves):
-    """Targets that lack some of their chunks, and have a file besides: beside their keys just those chunks are planned, and the
-    file is told; with the chunks each target is what it was. So it is by shares."""
+    """Targets that lack some of their chunks, and have another file. With their keys, the tasks of these chunks are planned, and the
+    file is reported. After these tasks each target is what it was. Shares do the same."""
     for count in range(moves):
         dtype, fills, name = generator.choice(TYPES)
         shape, of = shapes(generator), generator.randint(1, 3)
+        each = ["--task-chunks", ",".join(str(generator.randint(1, 2)) for _ in shape)] if generator.random() < 0.5 else []
         with tempfile.TemporaryDirectory() as room:
             ends = [pathlib.Path(room, name) for name in ("source", "target")]
             fill = generator.choice(fills)
@@ -340,11 +342,13 @@ def broken_off(chunkplan, generator, moves):
             planned = []
             for task in range(of):
                 words = ["--keys", "--share", task, of] if of > 1 else ["--keys"]
-                document = tool("document_of.py", *ends, *words, check=True).stdout
+                document = tool("document_of.py", *ends, *each, *words, check=True).stdout
                 lines = subprocess.run([chunkplan], input=document, stdout=subprocess.PIPE, check=True, text=True).stdout.splitlines(True)
                 yield f"broken off {count}: the other file", lines[-1] == json.dumps({"foreign": other}, ensure_ascii=False, separators=(",", ":")) + "\n"
                 planned += lines[:-1]
-            yield f"broken off {count}: what is missing", sorted(json.loads(line)["to"]["key"] for line in planned) == sorted(lost)
+            written = [{to["key"] for to in json.loads(line)["to"]} for line in planned]
+            yield f"broken off {count}: what is missing", all(keys & lost for keys in written) and lost <= set().union(*written)
+            yield f"broken off {count}: nothing else", bool(each) or sum(map(len, written)) == len(lost)
             if count % 10 == 0:
                 told = tool("copy_chunks.py", *ends, input="".join([*planned, lines[-1]]))
                 yield f"broken off {count}: by the worker", told.returncode == 0 and "a key that isn't its own" in told.stderr
@@ -539,17 +543,17 @@ def lines(chunkplan, generator, moves):
         # of the whole array, and of a region that gives some chunks of the target all they hold, and others a part
         for asked, words in (((), ()), (([[1, 1], [9, 7]], [2, 0]), ("--subset", "1,1", "9,7", "--at", "2,0"))):
             region = region_between(source, target, *asked)
-            fewer = region.count(target) - 1
             for text in plan_of(chunkplan, source, target, *asked):
                 line = json.loads(text)
-                yield text, task_of(text, source, target, region).line == line
+                yield text, task_of(text, source, target, region).line == task_of(text, source, target, region, [1, 1]).line == line
                 for edited in edits(line):
-                    if edited == {**line, "of": fewer} and line["number"] < fewer:  # of a plan of a box of chunks, as far as a line tells
-                        continue
-                    yield json.dumps(edited), is_refused(lambda: task_of(json.dumps(edited), source, target, region), "line")
+                    yield json.dumps(edited), is_refused(lambda: task_of(json.dumps(edited), source, target, region, [1, 1]), "line")
+                    if edited.get("of") == line["of"]:  # and else it is one of tasks of other numbers of chunks, as far as a line tells
+                        yield f"so {json.dumps(edited)}", is_refused(lambda: task_of(json.dumps(edited), source, target, region), "line")
                 for end in range(len(text) - 1):
                     yield text[:end], is_refused(lambda: task_of(text[:end], source, target, region), "no line of a plan")
-            told = tool("copy_chunks.py", *ends, *words, input=json.dumps({**line, "whole": not line["whole"]}) + "\n")
+            [to] = line["to"]
+            told = tool("copy_chunks.py", *ends, *words, input=json.dumps({**line, "to": [{**to, "whole": not to["whole"]}]}) + "\n")
             yield "the worker", (told.returncode, told.stdout, sorted(path.name for path in ends[1].iterdir())) == (1, "", [".zarray"])
 
 

@@ -32,15 +32,15 @@ PLANTED = [
         ],
         "faults.py full_disk",
     ),
-    ("the check of numbers always passes", [("check_done.py", "    if len(there) < count:", "    if False:")], "moves.py worker"),
+    ("the check of numbers always passes", [("check_done.py", "    if len(numbers) < count:", "    if False:")], "moves.py worker"),
     (
         "a planner's end is told by nothing",
-        [("check_done.py", "    if len(there) < count:", "    if False:"), ("engines/share.sh", "set -euo pipefail", "set -eu")],
+        [("check_done.py", "    if len(numbers) < count:", "    if False:"), ("engines/share.sh", "set -euo pipefail", "set -eu")],
         "faults.py planner",
     ),
     (
         "a worker's end is told by nothing",
-        [("check_done.py", "    if len(there) < count:", "    if False:"), ("engines/xargs_shares.sh", "|| status=$?", "|| true")],
+        [("check_done.py", "    if len(numbers) < count:", "    if False:"), ("engines/xargs_shares.sh", "|| status=$?", "|| true")],
         "faults.py cut_source",
     ),
     (
@@ -51,7 +51,7 @@ PLANTED = [
     ("what is unfinished is left", [("copy_chunks.py", "            unfinished.unlink(missing_ok=True)\n", "")], "moves.py worker"),
     ("a line's boxes are taken as they are", [("copy_chunks.py", "self.check(box[0] == index", "self.check(box")], "moves.py lines"),
     ("a box that is left out isn't missed", [("copy_chunks.py", "count == math.prod(self.buffer)", "count <= math.prod(self.buffer)")], "moves.py lines"),
-    ("a task isn't that of its number", [("copy_chunks.py", "self.check(is_numbered and self.box ==", "self.check(self.box ==")], "two_stages.py lines"),
+    ("a task isn't that of its number", [("copy_chunks.py", "is_numbered and box ==", "box ==")], "two_stages.py lines"),
     ("a key is taken as it is", [("copy_chunks.py", 'named["key"] == array.key(numbers)', 'named["key"] != ""')], "moves.py lines"),
     ("the order F is forgotten", [("stored_arrays.py", 'if metadata["order"] == "C" else dimensions[::-1]', "")], "moves.py kinds"),
     (
@@ -221,10 +221,11 @@ PLANTED = [
         "by_source.py lines",
     ),
     ("a piece that is left out isn't missed", [("copy_chunks.py", "count == math.prod(self.buffer)", "count <= math.prod(self.buffer)")], "by_source.py lines"),
+    ("a line of the other order is taken", [("copy_chunks.py", "source if by_source else target, by_source", "target, False")], "by_source.py lines"),
     (
-        "what was done in one order is done in the other",
-        [("copy_chunks.py", 'if line.get("order", "target") == order)', "if order)")],
-        "by_source.py worker",
+        "the keys of a stage are those of the target",
+        [("document_of.py", "open_array(words.keys).folder if words.keys else target.folder", "target.folder")],
+        "two_stages.py by_keys",
     ),
     ("both stages are the second one", [("two_stages.sh", '--stage "$1"', "--stage 2")], "two_stages.py script"),
     ("the intermediate array is left", [("two_stages.sh", 'rm -rf "$intermediate" ', "rm -rf ")], "two_stages.py script"),

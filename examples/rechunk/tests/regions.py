@@ -193,7 +193,7 @@ def faults(chunkplan, generator, count):
                 yield f"{name} {words}", (told.returncode, told.stdout) == (1, "") and message in told.stderr
         asked = [[1, 1], [9, 7]], [2, 0]
         plan = plan_of(chunkplan, *map(open_array, ends), *asked)
-        yield "chunks that get all they hold, and others", [json.loads(line)["whole"] for line in plan] == [False, False, True, False, False, False]
+        yield "chunks that get all they hold, and others", [to["whole"] for line in plan for to in json.loads(line)["to"]] == [False, False, True, False, False, False]
         # the line of another region, and of the whole array
         for words in ([], ["--subset", "1,1", "9,7", "--at", "2,1"], ["--subset", "0,1", "9,7", "--at", "2,0"]):
             told = tool("copy_chunks.py", *ends, *words, input=plan[0])

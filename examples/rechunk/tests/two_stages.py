@@ -112,8 +112,8 @@ def chosen(chunkplan, generator, count):
             held = max([math.prod(task["buffer"]) for task in tasks], default=0)
             chunk = max(math.prod(array.chunk_shape) for array in arrays)
             yield f"{what}: stage {number} holds {held} and {chunk}", not tasks or held + chunk <= most and held == stage["largest_task"]
-            groups = grouped(arrays[1], stage["task_chunks"])
-            yield f"{what}: stage {number} has groups", all(task_of(line, *arrays, region_between(*arrays, *part), groups) for line in lines)
+            each = stage["task_chunks"]
+            yield f"{what}: stage {number} has groups", all(task_of(line, *arrays, region_between(*arrays, *part), each) for line in lines)
         yield what, is_moved()
 
 
@@ -122,11 +122,12 @@ def given(chunkplan, generator, count):
     for room, asked, is_moved, what in moved_arrays(generator, count):
         source, target = open_array(room / "source"), open_array(room / "target")
         each, members = [generator.randint(1, 4) for _ in source.shape], {}
-        if asked == WHOLE and generator.random() < 0.5:
+        if generator.random() < 0.5:
             members["order"] = "source"
         lines = lines_of(chunkplan, source, target, asked, task_chunks=each, **members)
         generator.shuffle(lines)
-        read = carry_out(lines, room / "source", room / "target", *asked, most=0)
+        tasks = {"counts": each, "by_source": bool(members)}
+        read = carry_out(lines, room / "source", room / "target", *asked, most=0, **tasks)
         yield f"{what}, {each} {members}: {read} read", read == sum(len(json.loads(line)["from"]) for line in lines)
         yield f"{what}, {each} {members}", is_moved()
 
@@ -138,20 +139,22 @@ def lines(chunkplan, generator, count):
         make_2(ends[0], [12, 9], [5, 4], dtype="<i4")
         make_2(ends[1], [12, 9], [4, 2], dtype="<i4")
         source, target = map(open_array, ends)
-        # of the whole array, of a region, and of groups of the source's chunks, whose numbers a line alone doesn't show
-        kinds = [(WHOLE, [2, 3], {}), (([[1, 1], [9, 7]], [2, 0]), [2, 2], {}), (WHOLE, [1, 2], {"order": "source"})]
-        for asked, each, members in kinds:
-            region, groups = region_between(source, target, *asked), None if members else grouped(target, each)
+        # of the whole array and of a region, by groups of the target's chunks and of the source's
+        regions, source_order = (WHOLE, ([[1, 1], [9, 7]], [2, 0])), {"order": "source"}
+        for asked, (each, members) in itertools.product(regions, (([2, 3], {}), ([2, 2], {}), ([1, 2], source_order))):
+            region = region_between(source, target, *asked)
+
+            def task(text):
+                return task_of(text, source, target, region, each, bool(members))
+
             for text in lines_of(chunkplan, source, target, asked, task_chunks=each, **members):
                 line = json.loads(text)
-                yield text, task_of(text, source, target, region, groups).line == line
+                yield text, task(text).line == line
                 for edited in edits(line):
-                    if groups is None and all(edited.get(name) == line[name] for name in ("buffer", "from", "to")):
-                        continue  # a number alone
                     told = json.dumps(edited)
-                    yield told, is_refused(lambda: task_of(told, source, target, region, groups), "line")
+                    yield told, is_refused(lambda: task(told), "line")
                 for end in range(len(text) - 1):
-                    yield text[:end], is_refused(lambda: task_of(text[:end], source, target, region, groups), "no line of a plan")
+                    yield text[:end], is_refused(lambda: task(text[:end]), "no line of a plan")
 
 
 def worker(chunkplan, generator, count):
@@ -174,7 +177,7 @@ def worker(chunkplan, generator, count):
         plan = by_tasks(*groups)
         words = [*ends, *groups, "--done", room / "done", "--resume", room / "done", "--verbose"]
         first = tool("copy_chunks.py", *words, input="".join([plan[3], plan[0]]))
-        yield "two tasks", first.stdout == "".join(f'{{"number": {number}, "of": 4, "order": "task"}}\n' for number in (3, 0))
+        yield "two tasks", first.stdout == "".join(f'{{"number": {number}, "of": 4}}\n' for number in (3, 0))
         yield "each chunk is read once a task", "8 chunks written, 9 read" in first.stderr
         told = tool("check_done.py", ends[1], room / "done", *groups)
         yield "two are missing", (told.returncode, told.stderr) == (1, "check_done.py: 2 of 4 tasks weren't done: 0/3, 2/0\n")
@@ -183,7 +186,7 @@ def worker(chunkplan, generator, count):
         told = tool("check_done.py", ends[1], room / "done", "--task-chunks", "1,3")
         yield "other tasks", told.returncode == 1 and "lines of a plan of another length than 8" in told.stderr
         told = tool("check_done.py", ends[1], room / "done")
-        yield "no line of one chunk was done", told.returncode == 1 and "16 of 16 chunks weren't done" in told.stderr
+        yield "no line of one chunk was done", told.returncode == 1 and "lines of a plan of another length than 16" in told.stderr
         told = tool("copy_chunks.py", *ends, "--task-chunks", "2,2", input=plan[1])
         yield "a task of another group", told.returncode == 1 and "it isn't the task of its number" in told.stderr
         for wrong in ("2", "0,1"):
@@ -212,7 +215,7 @@ def worker(chunkplan, generator, count):
         make_2(ends[1], [60, 50], [17, 13], dtype=">i4", fill_value=None, order="F", dimension_separator="/")
         told = tool("copy_chunks.py", *ends, input="".join(plan))
         yield "refused where others may write", told.returncode == 1 and "other lines write chunk 1/0, too" in told.stderr
-        words = [*ends, "--alone", "--done", room / "alone", "--resume", room / "alone"]
+        words = [*ends, "--by-source", "--task-chunks", "3,1", "--alone", "--done", room / "alone", "--resume", room / "alone"]
         told = [tool("copy_chunks.py", *words, input="".join(some)) for some in (plan[1:], plan)]
         yield "alone", all(one.returncode == 0 for one in told) and len(told[1].stdout.splitlines()) == 1 and is_moved()
         told = tool("check_done.py", ends[1], room / "alone", "--by-source", ends[0], "--task-chunks", "3,1")
@@ -268,12 +271,40 @@ def killed(chunkplan, generator, count):
             got = zarr.open_array(str(ends[1]), mode="r")[...]
             array = open_array(ends[0 if by_source else 1])
             region, groups = region_between(*map(open_array, ends)), grouped(array, [2, 2])
-            boxes = [slices(*region.given(region.chunk_at(n, groups), groups)) for n, _ in done_in(room / "done", "task")]
+            boxes = [slices(*region.given(region.chunk_at(n, groups), groups)) for n, _ in done_in(room / "done")]
             yield f"killed {number}: {len(boxes)} of {len(plan)} tasks", all(numpy.array_equal(got[box], elements[box]) for box in boxes)
             left = subprocess.run(list(map(str, words)), input="".join(plan), capture_output=True, text=True)
             told = tool("check_done.py", ends[1], room / "done", "--task-chunks", "2,2", *(["--by-source", ends[0]] if by_source else []))
             moved = numpy.array_equal(zarr.open_array(str(ends[1]), mode="r")[...], elements)
             yield f"killed {number}: then all", left.returncode == told.returncode == 0 and moved
+
+
+def by_keys(chunkplan, generator, count):
+    """Tasks and stages that are cut off, and go on from the keys of the arrays that they write."""
+    with tempfile.TemporaryDirectory() as room:
+        here, middle, there = ends = [pathlib.Path(room, name) for name in ("source", "intermediate", "target")]
+        elements = numpy.arange(3000, dtype="<i4").reshape(60, 50)
+        make_2(here, [60, 50], [2, 50], dtype="<i4", fill_value=-1)[...] = elements
+        make_2(there, [60, 50], [60, 2], dtype=">i4", fill_value=None, order="F", dimension_separator="/")
+        os.environ["CHUNKPLAN"] = chunkplan
+        counts = counts_of(open_array(here), open_array(there), 400)
+        make(middle, metadata_of(open_array(here), [60, 50], counts["stages"][0]["intermediate"]))
+
+        def lines(stage):
+            words = ["--max-elements", 400, "--stage", stage, "--keys", *([middle] if stage == 1 else [])]
+            document = tool("document_of.py", here, there, *words, check=True).stdout
+            return subprocess.run([chunkplan], input=document, stdout=subprocess.PIPE, check=True, text=True).stdout.splitlines(True)
+
+        for stage, pair in enumerate(itertools.pairwise(ends), 1):
+            plan = lines(stage)
+            yield f"all tasks of stage {stage}", is_whole(plan) and len(plan) == counts["stages"][stage - 1]["tasks"]
+            some = sorted(generator.sample(range(len(plan)), len(plan) // 2))
+            told = tool("copy_chunks.py", *pair, "--cache", 0, input="".join(plan[number] for number in some))
+            left = [line for number, line in enumerate(plan) if number not in some]
+            yield f"what is left of stage {stage}", told.returncode == 0 and lines(stage) == left
+            told = tool("copy_chunks.py", *pair, "--cache", 0, input="".join(left))
+            yield f"nothing is left of stage {stage}", told.returncode == 0 and lines(stage) == []
+        yield "all elements", numpy.array_equal(zarr.open_array(str(there), mode="r")[...], elements)
 
 
 # A planner that removes a chunk before it plans the second stage.
@@ -443,4 +474,4 @@ def memory(chunkplan, generator, count):
 
 
 if __name__ == "__main__":
-    moves.main([chosen, given, lines, worker, beside, killed, script, memory])
+    moves.main([chosen, given, lines, worker, beside, killed, by_keys, script, memory])

@@ -7,27 +7,27 @@ pub use Rattle.json.specs.Print.{begins, ends, print, separator}
 pub use Rattle.json.specs.Token.{Token, begin_array, begin_object, boolean, end_array, end_object, key, number, string}
 pub use Rattle.json.specs.Tree.{items_tokens, json_tokens, members_tokens}
 pub use Rattle.programs.specs.chunkplan.CountsLine.{IsCountsLine, IsStagesLine, flag_text, shape_text}
-pub use Rattle.programs.specs.chunkplan.Document.{AsksForLinesOfCopy, Copying, Document, HasGroups, RangesWanted, Task, TaskChoice, Wanted, box_in, by_source, by_tasks}
+pub use Rattle.programs.specs.chunkplan.Document.{AsksForLinesOfCopy, Copying, Document, RangesWanted, Selection, Task, TaskChoice, Wanted, all_elements, box_in}
 pub use Rattle.programs.specs.chunkplan.Document.{choice_by, choice_in, choice_of, copy_to, copying_in, copying_of, counts_wanted, document_in, document_of, flag_in, form_in}
-pub use Rattle.programs.specs.chunkplan.Document.{into_chunks, line_order_in, lines_wanted, object_of, of_array, ranges_asked_of, ranges_by}
-pub use Rattle.programs.specs.chunkplan.Document.{ranges_in, read_of, rechunking_by, rechunking_in, rechunking_with, region_in, region_with, resize_to}
-pub use Rattle.programs.specs.chunkplan.Document.{RegionWanted, cheapest_in, target_stored_in, task_by, task_in, task_of, to_region, wanted_in, wanted_of}
-pub use Rattle.programs.specs.chunkplan.Keys.{AreForeign, AreKeys, AsStoreKey, HasKeysBehind, IsFirstNoText, IsKeyOfTarget, IsMissingText, TellsThere}
+pub use Rattle.programs.specs.chunkplan.Document.{into_box, into_chunks, line_order_in, lines_wanted, object_of, of_array, ranges_asked_of, ranges_by}
+pub use Rattle.programs.specs.chunkplan.Document.{of_region, ranges_in, read_of, rechunking_in, region_in, resize_to, selection_of}
+pub use Rattle.programs.specs.chunkplan.Document.{RegionWanted, target_stored_in, task_by, task_in, task_of, wanted_in, wanted_of}
+pub use Rattle.programs.specs.chunkplan.Keys.{AreForeign, AreKeys, AsStoreKey, HasKeysBehind, IsFirstNoText, IsKeyOfTarget, IsMissingText, IsThere, TellsDone}
 pub use Rattle.programs.specs.chunkplan.Keys.{behind, behind_first, closed_length, empty_line, first_line, foreign_json, foreign_lines, here}
 pub use Rattle.programs.specs.chunkplan.Keys.{key_line, no_line, unended}
-pub use Rattle.programs.specs.chunkplan.Line.{box_json, change_line, chunk_json, count_json, end_members, group_json, group_line, line_of, lines_from}
-pub use Rattle.programs.specs.chunkplan.Line.{numbers_items, numbers_json, overlap_json, part_json, piece_json, items_of, place_name, task_json, task_line, task_lines, range_items, resize_lines}
+pub use Rattle.programs.specs.chunkplan.Line.{box_json, change_line, count_json, line_of, lines_from}
+pub use Rattle.programs.specs.chunkplan.Line.{numbers_items, numbers_json, overlap_json, part_json, items_of, task_json, task_line, task_lines, range_items, resize_lines}
 pub use Rattle.programs.specs.chunkplan.MemberRules.{Fit, Rule, excludes, is_broken, needs, rule_of}
-pub use Rattle.programs.specs.chunkplan.RunFault.{is_not_json, of_create, of_document, of_refusal, of_region, of_stream, of_target}
+pub use Rattle.programs.specs.chunkplan.RunFault.{is_not_json, of_create, of_document, of_refusal, of_stream, of_target}
 pub use Rattle.programs.specs.chunkplan.seen.Added.{Adds}
 pub use Rattle.programs.specs.chunkplan.seen.Digits.{AreDigits, HasText, is_text, no_text, value, value_with}
-pub use Rattle.programs.specs.chunkplan.seen.Pieces.{begin_of_line, begin_tokens, comma_before, end_of_line, end_tokens, piece_text, ranges_tokens}
-pub use Rattle.programs.specs.chunkplan.seen.Pieces.{begin_of_task, begin_task_tokens, end_of_task, item_text, middle_of_task, middle_task_tokens, text_as, whole_if_tokens, whole_tokens}
+pub use Rattle.programs.specs.chunkplan.seen.Pieces.{comma_before, ranges_tokens}
+pub use Rattle.programs.specs.chunkplan.seen.Pieces.{begin_of_task, begin_task_tokens, end_of_task, item_text, middle_of_task, middle_task_tokens, text_as, whole_if_tokens}
 pub use Rattle.programs.specs.declared.chunkplan.line.Order.{Order}
 pub use Rattle.programs.specs.declared.chunkplan.line.Order.TheVariants.{Source, Target}
 pub use Rattle.programs.specs.declared.chunkplan.run_fault.RunFault.{RunFault}
-pub use Rattle.programs.specs.declared.chunkplan.run_fault.RunFault.TheVariants.{Copies, KeyNotText, KeysOfLongDocument, Memory, NotJson, Read}
-pub use Rattle.programs.specs.declared.chunkplan.run_fault.RunFault.TheVariants.{SubsetDimensionality, Uncovered, Write}
+pub use Rattle.programs.specs.declared.chunkplan.run_fault.RunFault.TheVariants.{KeyNotText, KeysOfLongDocument, Memory, NotJson, Read}
+pub use Rattle.programs.specs.declared.chunkplan.run_fault.RunFault.TheVariants.{SubsetDimensionality, TooManyForKeys, Uncovered, Write}
 pub use Rattle.serde_json.specs.Data.{Data}
 pub use Rattle.serde_json.specs.Find.{get}
 pub use Rattle.serde_json.specs.View.{view}
@@ -63,26 +63,23 @@ pub use Rattle.zarrs_chunk_keys.specs.declared.chunk_key_encoding.named.ChunkKey
 pub use Rattle.zarrs_chunk_parts.specs.Plan.{IsPart, IsPlan, Meets}
 pub use Rattle.zarrs_chunk_parts.specs.declared.part.Part.{Part}
 pub use Rattle.zarrs_chunk_plan.proofs.ByNumber.{counted_cases}
-pub use Rattle.zarrs_chunk_plan.proofs.Copied.{MovesHaveCome, copy_of, first_move, last_move, one_more_move}
-pub use Rattle.zarrs_chunk_plan.proofs.MovedBoxes.{can_stay, within_starts}
+pub use Rattle.zarrs_chunk_plan.proofs.MovedBoxes.{within_starts}
 pub use Rattle.zarrs_chunk_plan.proofs.SomePlan.{have_parts, plan_over}
-pub use Rattle.zarrs_chunk_plan.proofs.SomeRegions.{have_copy, have_moves, have_rechunking}
 pub use Rattle.zarrs_chunk_plan.proofs.SomeResizes.{ChangesHaveCome, IsChangeOf, asked_are_used, changes_ahead, first_change, last_change}
 pub use Rattle.zarrs_chunk_plan.proofs.SomeResizes.{one_more_change}
 pub use Rattle.zarrs_chunk_plan.proofs.Walked.{HaveCome, at_first, at_last, one_more, plan_of}
 pub use Rattle.zarrs_chunk_plan.specs.Counted.{counted}
 pub use Rattle.zarrs_chunk_plan.specs.Counts.{AreReadCounts, product}
-pub use Rattle.zarrs_chunk_plan.specs.Rechunking.{AreTargets, Group, IsRechunking, all_chunks_box, array_box}
-pub use Rattle.zarrs_chunk_plan.specs.Region.{AnyChunk, AreMovedInto, CanBeMoved, IsCopy, moved, shifted}
+pub use Rattle.zarrs_chunk_plan.specs.Rechunking.{array_box}
+pub use Rattle.zarrs_chunk_plan.specs.Region.{moved}
 pub use Rattle.zarrs_chunk_plan.specs.Shares.{before_share, share_of}
 pub use Rattle.zarrs_chunk_plan.specs.StoredChunks.{IsListed, IsOfArray}
 pub use Rattle.zarrs_chunk_plan.specs.declared.copy.stored_chunks.StoredChunks.{StoredChunks}
 pub use Rattle.zarrs_chunk_plan.specs.declared.read.walk.Parts.{Parts}
 pub use Rattle.zarrs_chunk_plan.specs.declared.shares.share.Share.{Share}
 pub use Rattle.zarrs_chunk_plan.specs.seen.Changes.{all_changes, changes_to_come}
-pub use Rattle.zarrs_chunk_plan.specs.seen.Copies.{IsAboutCopies, IsCopiesFault, all_targets, first_of, region_of, target_of, targets_to_come}
 pub use Rattle.zarrs_chunk_plan.specs.seen.Parts.{ArePartsToCome, HasKeys, IsAbout, all_chunks, chunks_to_come}
-pub use Rattle.zarrs_chunk_plan.specs.seen.StoredChunks.{Knows, is_stored}
+pub use Rattle.zarrs_chunk_plan.specs.seen.StoredChunks.{Knows}
 pub use Rattle.zarrs_chunk_tasks.specs.Tasks.{TaskPlan}
 pub use Rattle.zarrs_chunks.specs.declared.chunk_grid.named.ChunkGrid.{ChunkGrid}
 pub use Rattle.zarrs_chunks.specs.seen.Grids.{chained_in, grid_in, kind_in}

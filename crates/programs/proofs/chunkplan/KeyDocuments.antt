@@ -1,9 +1,9 @@
 -- What a document before keys asks for.
 use Rattle.programs.proofs.chunkplan.Common.{◌≡◌, ◌∙◌, ℕ, true, false, Contains, IsFalse, IsSome, List, Option, None, Some, Ok, codes, refl, arith}
 use Rattle.programs.proofs.chunkplan.Common.{sym, true≢false, All-contains, All-from_recursion, same_Some, Data, get, Share, optional, Stored}
-use Rattle.programs.proofs.chunkplan.Common.{AsksForLinesOfCopy, Copying, Document, HasGroups, Task, TaskChoice, Wanted, choice_in, copy_to, document_in, flag_in}
-use Rattle.programs.proofs.chunkplan.Common.{into_chunks, lines_wanted, to_region, rechunking_in, region_in, task_in, wanted_in, HasKeysBehind, Fit}
-use Rattle.programs.proofs.chunkplan.Common.{Rule, excludes, is_broken, needs, Target}
+use Rattle.programs.proofs.chunkplan.Common.{AsksForLinesOfCopy, Copying, Document, Task, Wanted, copy_to, document_in, flag_in}
+use Rattle.programs.proofs.chunkplan.Common.{lines_wanted, rechunking_in, region_in, task_in, wanted_in, HasKeysBehind, Fit}
+use Rattle.programs.proofs.chunkplan.Common.{Rule, excludes, is_broken, needs}
 use Rattle.programs.specs.chunkplan.MemberRules.{rules}
 
 -- ---- what a document has that breaks no rule
@@ -33,41 +33,21 @@ are_lines d wanted (counts, flag, by) none =
     let (share, _, same) = rw no at by in
     (share, same)
 
--- the task is a rechunking in the order of the target, or the copy of a region
+-- the task is a copy
 abbrev IsCopy : Task → Type 0
-IsCopy task = (stored : Stored) × (copied : Copying) × (task ≡ copy_to stored copied) × HasGroups copied
+IsCopy task = (stored : Stored) × (copied : Copying) × (task ≡ copy_to stored copied)
 
 module _ (d : Data) (task : Task) where
-  -- without them the copy isn't made of tasks
-  no_tasks : (choice : Option TaskChoice) → get (codes "task_chunks") d ≡ None → get (codes "max_elements") d ≡ None
-      → choice_in d (Ok choice) → choice ≡ None
-  no_tasks choice no_chunks no_bound (each, chosen, by) =
-      let none : each ≡ None = rw no_chunks at chosen in
-      let (most, bound, is) = rw none at by in
-      let unbound : most ≡ None = rw no_bound at bound in
-      rw unbound at is
+  to_target : (target : Data) (subset : Option Data) → optional (rechunking_in d target) (region_in d target) subset (Ok task) → IsCopy task
+  to_target target None (_, _, (stored, _, (choice, _, (chunks, _, same)))) = (stored, _, same)
+  to_target target (Some subset) (_, _, (shape, _, (stored, _, (elements, _, (at, _, (choice, _, same)))))) = (stored, _, same)
 
-  to_target : (target : Data) (subset : Option Data) → get (codes "order") d ≡ None → get (codes "task_chunks") d ≡ None
-      → get (codes "max_elements") d ≡ None → optional (rechunking_in d target) (region_in d target) subset (Ok task) → IsCopy task
-  to_target target None no_order no_chunks no_bound (_, _, (stored, _, (choice, chosen, is))) =
-      let (order, ordered, by) = rw (no_tasks choice no_chunks no_bound chosen) at is in
-      let in_target : order ≡ Target = rw no_order at ordered in
-      let (chunks, _, same) = rw in_target at by in
-      (stored, into_chunks chunks, same, tt)
-  to_target target (Some subset) no_order no_chunks no_bound (_, _, (shape, _, (stored, _, (elements, _, (at, _, (choice, chosen, same)))))) = (
-    stored,
-    to_region (record { shape = shape; elements = elements; at = at }),
-    rw (no_tasks choice no_chunks no_bound chosen) at same,
-    tt,
-  )
-
-  is_copy : (target : Option Data) → IsSome target → get (codes "resize") d ≡ None → get (codes "order") d ≡ None
-      → get (codes "task_chunks") d ≡ None → get (codes "max_elements") d ≡ None → task_in d target (Ok task) → IsCopy task
-  is_copy (Some target) some no_resize no_order no_chunks no_bound (resize, resized, is) =
+  is_copy : (target : Option Data) → IsSome target → get (codes "resize") d ≡ None → task_in d target (Ok task) → IsCopy task
+  is_copy (Some target) some no_resize (resize, resized, is) =
       let none : resize ≡ None = rw no_resize at resized in
       let (_, _, to) = rw none at is in
-      to_target target (get (codes "subset") d) no_order no_chunks no_bound to
-  is_copy None some no_resize no_order no_chunks no_bound is = absurd (true≢false (sym some))
+      to_target target (get (codes "subset") d) to
+  is_copy None some no_resize is = absurd (true≢false (sym some))
 
 pub copy_of_lines : (line : List ℕ) (document : Document) → document_in line (Ok document) → HasKeysBehind line → AsksForLinesOfCopy document
 copy_of_lines line document (d, json, (_, (_, _, (_, _, fit)), (_, _, (wanted, are_wanted, (_, _, (_, _, (task, is_task, same)))))))
@@ -75,12 +55,8 @@ copy_of_lines line document (d, json, (_, (_, _, (_, _, fit)), (_, _, (wanted, a
     let one : other ≡ d = same_Some other d (sym also.1 ∙ json.0.1) in
     let some = flag_is_there d (codes "keys") (rw one at flag) in
     let target = is_beside d fit (codes "keys") (codes "target") (22, omega arith, refl) some in
-    let without : (member : List ℕ) → Contains rules (excludes member (codes "keys")) → get member d ≡ None =
-    λ member among. none_before d fit member (codes "keys") among some in
+    let no_resize = none_before d fit (codes "resize") (codes "keys") (7, omega arith, refl) some in
     rw same (
       are_lines d wanted are_wanted (none_beside d fit (codes "keys") (codes "counts") (23, omega arith, refl) some),
-      is_copy d task (get (codes "target") d) target (without (codes "resize") (7, omega arith, refl))
-          (without (codes "order") (28, omega arith, refl))
-          (without (codes "task_chunks") (35, omega arith, refl))
-          (without (codes "max_elements") (39, omega arith, refl)) is_task,
+      is_copy d task (get (codes "target") d) target no_resize is_task,
     )

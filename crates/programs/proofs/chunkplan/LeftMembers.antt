@@ -1,9 +1,9 @@
 -- What was taken out of a document leaves the other members.
 use Rattle.programs.proofs.chunkplan.Common.{◌≡◌, ◌≢◌, ◌∙◌, ℕ, false, List, Option, None, Some, Result, Ok, Err, ap, arith, bytes_eq, codes, inl, inr}
 use Rattle.programs.proofs.chunkplan.Common.{length, refl, subst, Data, get, Box, edge_of, list_of, size_of, gives, optional, then, told, Stored}
-use Rattle.programs.proofs.chunkplan.Common.{DocumentFault, RangesWanted, Task, TaskChoice, cheapest_in, choice_by, choice_in, copy_to, copying_in, of_array, ranges_by, ranges_in, rechunking_by}
-use Rattle.programs.proofs.chunkplan.Common.{rechunking_in, box_in, flag_in, line_order_in, object_of, read_of, rechunking_with, region_in, region_with}
-use Rattle.programs.proofs.chunkplan.Common.{target_stored_in, task_by, task_in, of_document, Order, Source, Target, RunFault}
+use Rattle.programs.proofs.chunkplan.Common.{DocumentFault, RangesWanted, Task, TaskChoice, choice_by, choice_in, copy_to, copying_in, into_box, of_array, ranges_by, ranges_in}
+use Rattle.programs.proofs.chunkplan.Common.{rechunking_in, box_in, flag_in, object_of, of_region, read_of, region_in, target_stored_in, task_by, task_in}
+use Rattle.programs.proofs.chunkplan.Common.{of_document, RunFault}
 use Rattle.std.proofs.lemmas.Bool.Decides.{not_from_Decides}
 use Rattle.std.proofs.lemmas.Slice.Eq.{bytes_eq-Decides}
 use Rattle.documents.specs.Document.{optional_in, shape_in}
@@ -44,46 +44,38 @@ module _ (d left : Data)
 
   -- ---- what is asked for with a target
 
-  by_left : (stored : Stored) (order : Order) (r : Result Task RunFault) → rechunking_by left stored order r → rechunking_by d stored order r
-  by_left stored Target (Ok task) is = rw (kept (codes "chunks") refl refl refl) at is
-  by_left stored Target (Err fault) is = rw (kept (codes "chunks") refl refl refl) at is
-  by_left stored Source r is = is
-
-  with_left : (stored : Stored) (choice : Option TaskChoice) (r : Result Task RunFault) → rechunking_with left stored choice r
-      → rechunking_with d stored choice r
-  with_left stored (Some choice) r is = is
-  with_left stored None r is =
-      then_moves (λ d. told of_document (line_order_in d)) (λ d. rechunking_by d stored)
-      (told_moves of_document line_order_in (λ r is. rw (kept (codes "order") refl refl refl) at is)) (by_left stored) r is
-
-  cheapest_left : (most : Option ℕ) (r : Result (Option TaskChoice) DocumentFault) → cheapest_in left most r → cheapest_in d most r
-  cheapest_left None r is = is
-  cheapest_left (Some most) (Ok choice) is = rw (kept (codes "read_elements") refl refl refl, kept (codes "stage") refl refl refl) at is
-  cheapest_left (Some most) (Err fault) is = rw (kept (codes "read_elements") refl refl refl, kept (codes "stage") refl refl refl) at is
-
-  choice_by_left : (each : Option (List ℕ)) (r : Result (Option TaskChoice) DocumentFault) → choice_by left each r → choice_by d each r
-  choice_by_left (Some each) (Ok choice) is = rw (kept (codes "order") refl refl refl) at is
-  choice_by_left (Some each) (Err fault) is = rw (kept (codes "order") refl refl refl) at is
-  choice_by_left None r is =
-      then_moves (optional_in size_of (codes "max_elements")) cheapest_in (λ r is. rw (kept (codes "max_elements") refl refl refl) at is) cheapest_left r is
+  choice_by_left : (most : Option ℕ) (r : Result TaskChoice DocumentFault) → choice_by left most r → choice_by d most r
+  choice_by_left (Some most) (Ok choice) is = rw (kept (codes "read_elements") refl refl refl, kept (codes "stage") refl refl refl) at is
+  choice_by_left (Some most) (Err fault) is = rw (kept (codes "read_elements") refl refl refl, kept (codes "stage") refl refl refl) at is
+  choice_by_left None (Ok choice) is = rw (kept (codes "task_chunks") refl refl refl, kept (codes "order") refl refl refl) at is
+  choice_by_left None (Err fault) is = rw (kept (codes "task_chunks") refl refl refl, kept (codes "order") refl refl refl) at is
 
   choice_left : Moves choice_in
   choice_left =
-      then_moves (optional_in (list_of edge_of) (codes "task_chunks")) choice_by (λ r is. rw (kept (codes "task_chunks") refl refl refl) at is) choice_by_left
+      then_moves (optional_in size_of (codes "max_elements")) choice_by (λ r is. rw (kept (codes "max_elements") refl refl refl) at is) choice_by_left
 
   array_left : (target : Data) (r : Result (Unit {0}) RunFault) → of_array left target r → of_array d target r
   array_left target (Ok done) is = rw (kept (codes "shape") refl refl refl, kept (codes "data_type") refl refl refl) at is
   array_left target (Err fault) is = rw (kept (codes "shape") refl refl refl, kept (codes "data_type") refl refl refl) at is
 
-  abbrev chosen : (stored : Stored) → Data → Result Task RunFault → Type 0
-  chosen stored d = then (told of_document (choice_in d)) (rechunking_with d stored)
-
   rechunking_left : (target : Data) → Moves (λ d. rechunking_in d target)
   rechunking_left target =
-      then_moves (λ d. of_array d target) (λ d _. then (told of_document (target_stored_in target)) (λ stored. chosen stored d)) (array_left target)
-      (λ _. then_moves (λ _. told of_document (target_stored_in target)) (λ d stored. chosen stored d) (λ r is. is)
-      (λ stored. then_moves (λ d. told of_document (choice_in d)) (λ d. rechunking_with d stored) (told_moves of_document choice_in choice_left)
-      (with_left stored)))
+      then_moves (λ d. of_array d target) (λ d _. of_stored d) (array_left target)
+      (λ _. then_moves (λ _. told of_document (target_stored_in target)) (λ d stored. of_choice stored d) (λ r is. is)
+      (λ stored. then_moves (λ d. told of_document (choice_in d)) (λ d choice. of_chunks stored choice d) (told_moves of_document choice_in choice_left)
+      (λ choice. then_moves (box_in (codes "chunks")) (λ _. last stored choice) (λ r is. rw (kept (codes "chunks") refl refl refl) at is) (λ chunks r is. is))))
+    where
+      last : (stored : Stored) → TaskChoice → Option Box → Result Task RunFault → Type 0
+      last stored choice chunks = gives (copy_to stored (record { choice = choice; selection = into_box chunks }))
+
+      of_chunks : (stored : Stored) → TaskChoice → Data → Result Task RunFault → Type 0
+      of_chunks stored choice d = then (box_in (codes "chunks") d) (last stored choice)
+
+      of_choice : (stored : Stored) → Data → Result Task RunFault → Type 0
+      of_choice stored d = then (told of_document (choice_in d)) (λ choice. of_chunks stored choice d)
+
+      of_stored : Data → Result Task RunFault → Type 0
+      of_stored d = then (told of_document (target_stored_in target)) (λ stored. of_choice stored d)
 
   region_left : (target subset : Data) → Moves (λ d. region_in d target subset)
   region_left target subset =
@@ -96,8 +88,9 @@ module _ (d left : Data)
       (λ at. then_moves (λ d. told of_document (choice_in d)) (λ _. last shape stored elements at) (told_moves of_document choice_in choice_left)
       (λ choice r is. is))))))
     where
-      last : (shape : List ℕ) (stored : Stored) (elements : Box) (at : Option (List ℕ)) → Option TaskChoice → Result Task RunFault → Type 0
-      last shape stored elements at choice = gives (copy_to stored (region_with choice (record { shape = shape; elements = elements; at = at })))
+      last : (shape : List ℕ) (stored : Stored) (elements : Box) (at : Option (List ℕ)) → TaskChoice → Result Task RunFault → Type 0
+      last shape stored elements at choice =
+          gives (copy_to stored (record { choice = choice; selection = of_region (record { shape = shape; elements = elements; at = at }) }))
 
       of_choice : (shape : List ℕ) (stored : Stored) (elements : Box) (at : Option (List ℕ)) → Data → Result Task RunFault → Type 0
       of_choice shape stored elements at d = then (told of_document (choice_in d)) (last shape stored elements at)

@@ -2,14 +2,13 @@
 use Rattle.programs.proofs.chunkplan.Common.{◌≡◌, ◌∙◌, ℕ, zero, suc, ◌<◌, ◌≤◌, Bool, true, false, List, [], ◌∷◌, ◌++◌, codes, Option, None, Some}
 use Rattle.programs.proofs.chunkplan.Common.{append_assoc, ap, ap₂, arith, refl, sym, ⊎_elim, fold, begins, ends, print, separator, Token}
 use Rattle.programs.proofs.chunkplan.Common.{begin_array, begin_object, boolean, end_array, end_object, key, string, items_tokens, json_tokens}
-use Rattle.programs.proofs.chunkplan.Common.{members_tokens, cases_lt, le-leb, lt-leb, Part, shifted, RangesWanted, box_json, chunk_json, count_json}
-use Rattle.programs.proofs.chunkplan.Common.{end_members, group_json, group_line, lines_from, numbers_json, overlap_json, part_json, piece_json, items_of}
-use Rattle.programs.proofs.chunkplan.Common.{place_name, begin_of_line, begin_tokens, comma_before, end_of_line, end_tokens, item_text, piece_text, begin_of_task, begin_task_tokens, end_of_task, middle_of_task}
-use Rattle.programs.proofs.chunkplan.Common.{ranges_tokens, middle_task_tokens, task_json, task_line, whole_if_tokens, whole_tokens, unbroken, Order, Source, Target, TaskPlan}
+use Rattle.programs.proofs.chunkplan.Common.{members_tokens, cases_lt, le-leb, lt-leb, Part, RangesWanted, box_json, count_json}
+use Rattle.programs.proofs.chunkplan.Common.{lines_from, numbers_json, overlap_json, part_json, items_of, comma_before, item_text, begin_of_task, begin_task_tokens}
+use Rattle.programs.proofs.chunkplan.Common.{end_of_task, middle_of_task, ranges_tokens, middle_task_tokens, task_json, task_line, whole_if_tokens, unbroken, TaskPlan}
 use Rattle.std.proofs.lemmas.Grind.{fold-append}
 use Rattle.json.specs.Json.{Json, null, boolean as boolean_json, number, string as string_json, array, object, Items, no_items, item, Members}
 use Rattle.json.specs.Json.{no_members, member}
-use Rattle.json.specs.Print.{escape_byte, print_from}
+use Rattle.json.specs.Print.{print_from}
 use Rattle.json.proofs.Printed.Tokens.{print_from-append}
 use Rattle.zarrs_chunk_base.specs.Greatest.{greatest}
 use Rattle.zarrs_chunk_plan.specs.Counted.{counted}
@@ -104,21 +103,6 @@ pub item_escaped : (json : Part → Json) (at : Option ℕ) (part : Part)
     → unbroken (comma_before at ++ print (json_tokens (json part))) ≡ item_text json at part
 item_escaped json at part = comma_stays at (print (json_tokens (json part)))
 
-begin_ends : (order : Order) (at of : Option ℕ) (part : Part) → EndsWith 91 (print (begin_tokens order at of part))
-begin_ends Target at of part = ends_with_bracket (begin_object ∷ key (codes "from") ∷ [])
-begin_ends Source at of part =
-    let chunk = json_tokens (chunk_json part) in
-    let number = json_tokens (count_json at) in
-    let count = json_tokens (count_json of) in
-    let third : List Token = key (codes "of") ∷ (count ++ key (codes "to") ∷ []) in
-    let second : List Token = key (codes "number") ∷ (number ++ third) in
-    simp append_assoc at (ends_with_bracket (begin_object ∷ key (codes "from") ∷ (chunk ++ second)))
-
--- the text that begins the line of a chunk of the target has no character to escape
-pub begin_escaped : (at of : Option ℕ) (part : Part) → unbroken (print (begin_tokens Target at of part)) ≡ print (begin_tokens Target at of part)
-unfolding print_from escape_byte
-begin_escaped at of part = refl
-
 -- ---- the items of a list
 
 module _ (json : Part → Json) (is_object : (part : Part) → (ms : Members) × (json part ≡ object ms)) where
@@ -181,50 +165,6 @@ module _ (json : Part → Json) (is_object : (part : Part) → (ms : Members) ×
       ∙ ap (λ text. print first ++ text) (items_printed 0 parts ts))
       ∙ escaped_apart 91 (omega arith) (print first) (all_printed 0 parts ++ last) bracket
       ∙ ap (λ text. unbroken (print first) ++ text) (items_escaped 0 parts last)
-
--- ---- the line of a chunk
-
-pieces_are_objects : (order : Order) (of part : Part) → (ms : Members) × (piece_json order of.in_chunk.start part ≡ object ms)
-pieces_are_objects order of part = (_, refl)
-
-module _ (of : Part) where
-  -- the tokens of a line: those before its pieces, the pieces, and those behind them
-  line_tokens : (order : Order) (at all : Option ℕ) (parts : List Part) → (ts : List Token)
-      × (json_tokens (group_json order at all (of, parts))
-      ≡ begin_tokens order at all of ++ (items_tokens (items_of (piece_json order of.in_chunk.start) parts) ++ ts))
-      × (end_tokens order at all of ≡ end_array ∷ ts) × (ended false (begin_tokens order at all of) ≡ false)
-  line_tokens Target at all parts = (members_tokens (end_members at all of), refl, refl, refl)
-  line_tokens Source at all parts =
-      let chunk = json_tokens (chunk_json of) in
-      let number = json_tokens (count_json at) in
-      let count = json_tokens (count_json all) in
-      let pieces = items_tokens (items_of (piece_json Source of.in_chunk.start) parts) in
-      let last : List Token = key (codes "to") ∷ begin_array ∷ [] in
-      let third : List Token = key (codes "of") ∷ (count ++ last) in
-      let second : List Token = key (codes "number") ∷ (number ++ third) in
-      let rest : List Token = pieces ++ end_object ∷ [] in (
-        end_object ∷ [],
-        ap (λ ts. begin_object ∷ key (codes "from") ∷ ts)
-            (ap (λ ts. chunk ++ key (codes "number") ∷ ts)
-            (ap (λ ts. number ++ key (codes "of") ∷ ts) (sym (append_assoc count last rest)) ∙ sym (append_assoc number third rest))
-            ∙ sym (append_assoc chunk second rest)),
-        refl,
-        begun_again false chunk second (λ _. begun_again false number third (λ _. begun_again false count last (λ _. refl))),
-      )
-
-  pub in_pieces : (order : Order) (at all : Option ℕ) (parts : List Part)
-      → group_line order at all (of, parts)
-      ≡ (begin_of_line order at all of ++ lines_from (λ n. piece_text order of (counted n)) 0 parts) ++ end_of_line order at all of
-  in_pieces order at all parts =
-      let first = begin_tokens order at all of in
-      let (ts, tokens, end, begun) = line_tokens order at all parts in
-      let sent = list_sent (piece_json order of.in_chunk.start) (pieces_are_objects order of) first ts parts begun (begin_ends order at all of) in
-      let begin = begin_of_line order at all of in
-      let escaped = lines_from (λ n. piece_text order of (counted n)) 0 parts in
-      let last = unbroken (print (end_tokens order at all of)) in
-      let whole : unbroken (print (json_tokens (group_json order at all (of, parts)))) ≡ begin ++ (escaped ++ last) =
-      ap (λ us. unbroken (print us)) tokens ∙ sent ∙ ap (λ us. begin ++ (escaped ++ unbroken (print us))) (sym end) in
-      ap (λ text. text ++ codes "\n") (whole ∙ sym (append_assoc begin escaped last)) ∙ append_assoc (begin ++ escaped) last (codes "\n")
 
 -- ---- the line of a task
 
@@ -295,16 +235,6 @@ pub part_tokens : (at of : Option ℕ) (wanted : Option RangesWanted) (part : Pa
     ++ key (codes "whole") ∷ boolean part.whole ∷ end_object ∷ [])))))))
 part_tokens at of None part = refl
 part_tokens at of (Some wanted) part = refl
-
--- the tokens of a piece
-pub piece_tokens : (order : Order) (first : List ℕ) (part : Part) → json_tokens (piece_json order first part)
-    ≡ begin_object ∷ key (codes "chunk") ∷ (json_tokens (numbers_json part.chunk.items)
-    ++ key (codes "in_chunk") ∷ (json_tokens (box_json part.in_chunk)
-    ++ key (place_name order) ∷ (json_tokens (box_json (shifted first part.in_subset))
-    ++ key (codes "key") ∷ string part.key ∷ key (codes "shape") ∷ (json_tokens (numbers_json part.shape.items)
-    ++ (whole_tokens order part ++ end_object ∷ [])))))
-piece_tokens Target first part = refl
-piece_tokens Source first part = refl
 
 -- the tokens of an overlap
 pub overlap_tokens : (written : Bool) (part : Part) → json_tokens (overlap_json written part)

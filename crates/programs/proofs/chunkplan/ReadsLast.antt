@@ -1,9 +1,7 @@
 -- When a step reads that sends the text of a plan.
-use Rattle.programs.proofs.chunkplan.Common.{◌≡◌, ◌≢◌, ℕ, List, refl, IsErrAnd, Result, Ok, Err, ChunkGrid, ChunkKeyEncoding, Group, Share, then, Document}
+use Rattle.programs.proofs.chunkplan.Common.{◌≡◌, ◌≢◌, ℕ, List, refl, IsErrAnd, Result, Ok, Err, Share, then, Document}
 use Rattle.programs.proofs.chunkplan.Common.{Stored, Copying, copy_to, lines_wanted, RunFault, Read}
-use Rattle.zarrs_chunk_plan.specs.declared.copy.chunk_copies.Copies.{Copies}
 use Rattle.programs.specs.chunkplan.Planned.{Array, beside_by, copy_beside, source_in, target_in, target_shape, text_beside}
-use Rattle.programs.specs.chunkplan.seen.Opened.{CopiesToCome, OfGroups}
 use Rattle.programs.specs.chunkplan.seen.Reads.{ReadFailsAfter}
 use Rattle.programs.proofs.chunkplan.Exits.{handed}
 
@@ -33,17 +31,10 @@ pub fails_later : {X : Type 0} (first : Result X RunFault → Type 0) (next : X 
     → (r : Result (Unit {0}) RunFault) → ReadFailsAfter (next x) r → ReadFailsAfter (then first next) r
 fails_later first next x is = fails_follow (next x) (then first next) (λ text made. (x, is, made))
 
--- a copy of which a walk gives the groups
-pub fails_of_copy : (walk : Copies ChunkGrid ChunkKeyEncoding ChunkGrid ChunkKeyEncoding) (copy : Result (List Group) RunFault → Type 0)
-    (text : List Group → Result (List ℕ) RunFault → Type 0) → ((groups : List Group) → CopiesToCome walk groups → copy (Ok groups))
-    → (r : Result (Unit {0}) RunFault) → ReadFailsAfter (OfGroups walk text) r → ReadFailsAfter (then copy text) r
-fails_of_copy walk copy text planned =
-    fails_follow (OfGroups walk text) (then copy text) (λ t (groups, moves, is). (groups, planned groups moves, is))
-
 -- what a document asks for of it
 pub fails_of_share : (document : Document) (source : Array) (stored : Stored) (copying : Copying) (share : Share) → source_in document (Ok source)
     → document.task ≡ copy_to stored copying → document.wanted ≡ lines_wanted share → (bytes : List ℕ) (r : Result (Unit {0}) RunFault)
-    → ReadFailsAfter (then (target_in stored (target_shape copying document.shape)) (copy_beside copying share bytes source)) r
+    → ReadFailsAfter (then (target_in stored (target_shape copying.selection document.shape)) (copy_beside copying share bytes source)) r
     → ReadFailsAfter (text_beside document bytes) r
 fails_of_share document source stored copying share made is_task is_share bytes r fails =
     fails_later (source_in document) (beside_by document bytes document.wanted document.task) source made r (rw (is_share, is_task) fails)

@@ -1,20 +1,21 @@
 -- The outcomes of a run, put together from its steps.
-use Rattle.programs.proofs.chunkplan.Common.{◌≡◌, ◌∙◌, ℕ, Bool, true, false, List, [], ◌++◌, Option, None, Some, Result, Ok, Err, append_assoc, ap}
+use Rattle.programs.proofs.chunkplan.Common.{◌≡◌, ◌≢◌, ◌⊎◌, ◌∙◌, ℕ, Bool, true, false, List, [], ◌++◌, Option, None, Some, Result, Ok, Err, append_assoc, ap}
 use Rattle.programs.proofs.chunkplan.Common.{arith, inl, inr, refl, sym, true≢false, ⊎_elim, Data, Box, then, Stored, Document, Task, Wanted, copying_in}
-use Rattle.programs.proofs.chunkplan.Common.{document_in, form_in, rechunking_in, region_in, Copying, by_source, copy_to, counts_wanted, into_chunks}
-use Rattle.programs.proofs.chunkplan.Common.{lines_wanted, read_of, resize_to, to_region, by_tasks, TaskChoice, behind_first, first_line, of_create}
-use Rattle.programs.proofs.chunkplan.Common.{of_document, of_stream, of_target, Output, RunFault, Memory, Read, Write, DocumentFault, StreamFault}
+use Rattle.programs.proofs.chunkplan.Common.{document_in, form_in, rechunking_in, region_in, Copying, Selection, all_elements, copy_to, counts_wanted}
+use Rattle.programs.proofs.chunkplan.Common.{into_chunks, lines_wanted, of_region, read_of, resize_to, TaskChoice, behind_first, first_line, of_create}
+use Rattle.programs.proofs.chunkplan.Common.{of_document, of_stream, of_target, Output, RunFault, Memory, Read, TooManyForKeys, Write, DocumentFault, StreamFault}
+use Rattle.programs.proofs.chunkplan.Common.{Dimension, Share}
 use Rattle.zarrs_chunk_plan.specs.declared.copy.region_error.RegionError.{RegionError}
 use Rattle.zarrs_chunk_tasks.specs.declared.tasks_error.TasksError.{TasksError}
 use Rattle.zarrs_chunk_tasks.specs.declared.tasks_error.TasksError.TheVariants.{Region as OfRegion, TaskChunks as OfTaskChunks}
 use Rattle.streams.specs.Streams.{IsReadToEnd, Streams}
 use Rattle.programs.specs.chunkplan.Document.{cheapest, given}
-use Rattle.programs.specs.chunkplan.Planned.{Array, IsPlanOf, begins_at, beside_by, copy_beside, copy_text, elements_of, groups_of, index_of, missing_text}
-use Rattle.programs.specs.chunkplan.Planned.{of_document as of_whole, of_input, of_keys, region_of, several_lines, source_in, target_in, target_shape}
-use Rattle.programs.specs.chunkplan.Planned.{stages_text, tasks_text, text_beside, text_by, text_unless, whole_in}
+use Rattle.programs.specs.chunkplan.Planned.{Array, IsPlanOf, begins_at, beside_by, copy_beside, copy_stages, copy_text, elements_in, missing_of}
+use Rattle.programs.specs.chunkplan.Planned.{missing_text, of_document as of_whole, of_input, of_keys, several_lines, source_in, stages_text, target_in}
+use Rattle.programs.specs.chunkplan.Planned.{target_shape, text_beside, text_by, text_unless, whole_in}
 use Rattle.programs.specs.chunkplan.Run.{FailsAfterDocument, HasBegunPlan, RunLeaves}
 use Rattle.programs.specs.chunkplan.RunFault.{of_region as of_region_error, of_tasks}
-use Rattle.programs.specs.chunkplan.Stages.{IsFaultOfSome, IsStageFault, Stage, Stages, asked_in, number_asked, stages_in}
+use Rattle.programs.specs.chunkplan.Stages.{IsFaultOfSome, IsStageFault, Stage, Stages, asked_in, number_asked, plans_in, stages_in}
 use Rattle.programs.specs.chunkplan.seen.Steps.{HasBegun, InputStepLeaves}
 use Rattle.documents.specs.declared.stored.CreateFault.{CreateFault}
 use Rattle.streams.specs.declared.stream_fault.StreamFault.TheVariants.{Write as WriteFailed}
@@ -39,6 +40,15 @@ none_of_writing P never is = true≢false (never Write is)
 -- what holds of neither holds of others alone
 pub still : (P : RunFault → Type 0) → ¬ P Read → ¬ P Write → Still P
 still P no_read no_write fault is = grind arith
+
+-- a call stops for want of memory, or by such a fault
+pub still_early : (P : RunFault → Type 0) → Still P → Still (λ fault. (fault ≡ Memory) ⊎ P fault)
+still_early P never fault (inl same) = ap moves same
+still_early P never fault (inr is) = never fault is
+
+pub no_read_fault : (fault : RunFault) → (fault ≡ Memory) ⊎ (fault ≡ TooManyForKeys) → fault ≢ Read
+no_read_fault fault (inl is) same = true≢false (sym (ap moves same) ∙ ap moves is)
+no_read_fault fault (inr is) same = true≢false (sym (ap moves same) ∙ ap moves is)
 
 of_document_still : (told : DocumentFault) → moves (of_document told) ≡ false
 of_document_still told = grind arith
@@ -66,9 +76,6 @@ source_still document fault (told, _, same) = ap moves same ∙ of_create_still 
 
 pub target_still : (stored : Stored) (shape : List ℕ) → Still (λ fault. target_in stored shape (Err fault))
 target_still stored shape fault (told, _, same) = ap moves same ∙ of_target_still told
-
-pub region_still : (source : Array) (region : Box) (at : List ℕ) (target : Array) → Still (λ fault. region_of source region at target (Err fault))
-region_still source region at target fault (told, _, same) = ap moves same ∙ of_region_still told
 
 -- ---- of a document
 
@@ -116,25 +123,28 @@ stages_text_still asked (lines_wanted share) stages fault (inl is) = asked_still
 stages_text_still asked (lines_wanted share) stages fault (inr (stage, _, is)) = stage_still stage fault is
 stages_text_still asked counts_wanted stages fault is = fault_of_some_still stages.1 fault is
 
-pub tasks_still : (choice : TaskChoice) (wanted : Wanted) (source target : Array) (region : Box) (at : List ℕ)
-    → Still (λ fault. tasks_text choice wanted source target region at (Err fault))
-tasks_still choice wanted source target region at =
-    then_still (stages_in choice source target region at) (stages_text (number_asked choice) wanted) (stages_still choice source target region at)
-    (stages_text_still (number_asked choice) wanted)
+pub elements_still : (selection : Selection) (source target : List Dimension) → Still (λ fault. elements_in selection source target (Err fault))
+elements_still all_elements source target = λ fault none. absurd none
+elements_still (into_chunks chunks) source target = still _ (λ never. never) (λ never. never)
+elements_still (of_region region) source target = λ fault none. absurd none
+
+pub copy_stages_still : (copying : Copying) (source target : Array) → Still (λ fault. copy_stages copying source target (Err fault))
+copy_stages_still copying source target =
+    then_still (elements_in copying.selection source.0.dimensions target.0.dimensions)
+    (λ elements. stages_in copying.choice source target elements (begins_at copying.selection elements))
+    (elements_still copying.selection source.0.dimensions target.0.dimensions)
+    (λ elements. stages_still copying.choice source target elements (begins_at copying.selection elements))
 
 copy_still : (copying : Copying) (wanted : Wanted) (source target : Array) → Still (λ fault. copy_text copying wanted source target (Err fault))
-copy_still (into_chunks chunks) wanted source target = still _ (λ never. never) (λ never. never)
-copy_still by_source wanted source target = still _ (λ never. never) (λ never. never)
-copy_still (to_region region) wanted source target = region_still source region.elements (begins_at region.elements region.at) target
-copy_still (by_tasks choice region) wanted source target =
-    let elements = elements_of source.0.dimensions region in
-    tasks_still choice wanted source target elements (begins_at elements (index_of region))
+copy_still copying wanted source target =
+    then_still (copy_stages copying source target) (stages_text (number_asked copying.choice) wanted) (copy_stages_still copying source target)
+    (stages_text_still (number_asked copying.choice) wanted)
 
 text_still : (document : Document) (source : Array) (task : Task) → Still (λ fault. text_by document source task (Err fault))
 text_still document source (read_of subset clip ranges) = still _ (λ never. never) (λ never. never)
 text_still document source (copy_to stored copying) =
-    then_still (target_in stored (target_shape copying document.shape)) (copy_text copying document.wanted source)
-    (target_still stored (target_shape copying document.shape)) (copy_still copying document.wanted source)
+    then_still (target_in stored (target_shape copying.selection document.shape)) (copy_text copying document.wanted source)
+    (target_still stored (target_shape copying.selection document.shape)) (copy_still copying document.wanted source)
 text_still document source (resize_to shape keep) = still _ (λ never. never) (λ never. never)
 
 unless_still : (keys : Bool) (document : Document) → Still (λ fault. text_unless keys document (Err fault))
@@ -143,19 +153,24 @@ unless_still false document =
     (λ source. text_still document source document.task)
 unless_still true document = λ fault same. ap moves same
 
-pub groups_still : (copying : Copying) (source target : Array) → Still (λ fault. groups_of copying source target (Err fault))
-groups_still (into_chunks chunks) source target = still _ (λ never. never) (λ never. never)
-groups_still by_source source target = λ fault none. absurd none
-groups_still (to_region region) source target = region_still source region.elements (begins_at region.elements region.at) target
-groups_still (by_tasks choice region) source target = λ fault none. absurd none
+pub missing_still : (share : Share) (bytes : List ℕ) (stage : Stage) → Still (λ fault. missing_text share bytes stage (Err fault))
+missing_still share bytes stage =
+    then_still (plans_in stage) (missing_of share bytes stage) (stage_still stage) (λ plans. still _ (λ never. never) (λ never. never))
+
+copy_beside_still : (copying : Copying) (share : Share) (bytes : List ℕ) (source target : Array)
+    → Still (λ fault. copy_beside copying share bytes source target (Err fault))
+copy_beside_still copying share bytes source target =
+    then_still (copy_stages copying source target) (λ stages. then (asked_in (number_asked copying.choice) stages.1) (missing_text share bytes))
+    (copy_stages_still copying source target)
+    (λ stages. then_still (asked_in (number_asked copying.choice) stages.1) (missing_text share bytes)
+    (asked_still (number_asked copying.choice) stages.1) (missing_still share bytes))
 
 beside_still : (document : Document) (bytes : List ℕ) (wanted : Wanted) (task : Task) (source : Array)
     → Still (λ fault. beside_by document bytes wanted task source (Err fault))
 beside_still document bytes (lines_wanted share) (copy_to stored copying) source =
-    then_still (target_in stored (target_shape copying document.shape)) (copy_beside copying share bytes source)
-    (target_still stored (target_shape copying document.shape))
-    (λ target. then_still (groups_of copying source target) (missing_text share bytes target) (groups_still copying source target)
-    (λ groups. still _ (λ never. never) (λ never. never)))
+    then_still (target_in stored (target_shape copying.selection document.shape)) (copy_beside copying share bytes source)
+    (target_still stored (target_shape copying.selection document.shape))
+    (copy_beside_still copying share bytes source)
 beside_still document bytes (lines_wanted share) (read_of subset clip ranges) source = λ fault none. absurd none
 beside_still document bytes (lines_wanted share) (resize_to shape keep) source = λ fault none. absurd none
 beside_still document bytes counts_wanted task source = λ fault none. absurd none

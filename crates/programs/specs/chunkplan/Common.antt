@@ -11,7 +11,7 @@ pub use Rattle.programs.specs.declared.chunkplan.known_members.UnknownMember.{Un
 pub use Rattle.programs.specs.declared.chunkplan.line.Order.{Order}
 pub use Rattle.programs.specs.declared.chunkplan.line.Order.TheVariants.{Source, Target}
 pub use Rattle.programs.specs.declared.chunkplan.run_fault.RunFault.{RunFault}
-pub use Rattle.programs.specs.declared.chunkplan.run_fault.RunFault.TheVariants.{AtDimensionality, Copies, Encoding, Grid, KeyNotText}
+pub use Rattle.programs.specs.declared.chunkplan.run_fault.RunFault.TheVariants.{AtDimensionality, ChunksDimensionality, Encoding, Grid, KeyNotText}
 pub use Rattle.programs.specs.declared.chunkplan.run_fault.RunFault.TheVariants.{KeysOfLongDocument, Memory, Metadata, Missing, NoSuchStage}
 pub use Rattle.programs.specs.declared.chunkplan.run_fault.RunFault.TheVariants.{NoTasksFit, NotJson, NotObject, PastArray, PastTarget, Read}
 pub use Rattle.programs.specs.declared.chunkplan.run_fault.RunFault.TheVariants.{ResizedGrid, SeveralStages, SubsetDimensionality, TargetDimensionality}
@@ -40,9 +40,9 @@ pub use Rattle.zarrs_chunk_keys.specs.Numeral.{IsNumeral}
 pub use Rattle.zarrs_chunk_keys.specs.seen.Encodings.{encoding_in}
 pub use Rattle.zarrs_chunk_parts.specs.declared.part.Part.{Part}
 pub use Rattle.zarrs_chunk_plan.specs.Counted.{counted}
-pub use Rattle.zarrs_chunk_plan.specs.Counts.{AreCopyCounts, AreReadCounts, product}
-pub use Rattle.zarrs_chunk_plan.specs.Rechunking.{AreTargets, Group, IsRechunking, all_chunks_box, array_box}
-pub use Rattle.zarrs_chunk_plan.specs.Region.{AnyChunk, IsRegionCopy, IsRegionFault, moved, shifted}
+pub use Rattle.zarrs_chunk_plan.specs.Counts.{AreReadCounts, product}
+pub use Rattle.zarrs_chunk_plan.specs.Rechunking.{AreElementsOf, array_box}
+pub use Rattle.zarrs_chunk_plan.specs.Region.{IsRegionFault, moved}
 pub use Rattle.zarrs_chunk_plan.specs.Resize.{AreResized, IsUsed}
 pub use Rattle.zarrs_chunk_plan.specs.Shares.{before_share, share_of}
 pub use Rattle.zarrs_chunk_plan.specs.declared.bytes.ranges.MemoryOrder.{MemoryOrder}
@@ -50,7 +50,6 @@ pub use Rattle.zarrs_chunk_plan.specs.declared.copy.region_error.RegionError.{Re
 pub use Rattle.zarrs_chunk_plan.specs.declared.counts.of_plans.Counts.{Counts}
 pub use Rattle.zarrs_chunk_plan.specs.declared.resize.plan.ChunkChange.{ChunkChange}
 pub use Rattle.zarrs_chunk_plan.specs.declared.shares.share.Share.{Share}
-pub use Rattle.zarrs_chunk_plan.specs.seen.Copies.{all_targets, region_of, target_of, targets_to_come}
 pub use Rattle.zarrs_chunk_questions.specs.Order.{order_in, order_text}
 pub use Rattle.zarrs_chunk_tasks.specs.Counts.{in_all}
 pub use Rattle.zarrs_chunk_tasks.specs.Tasks.{TaskPlan}

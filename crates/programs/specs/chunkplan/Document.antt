@@ -1,9 +1,9 @@
 -- The program's document: a JSON object with the members `shape`, `chunk_grid` and `chunk_key_encoding`. Besides it has, for a read, `subset` and
--- `clip`, if they are wanted, and `item_size`, if byte ranges are, with `memory_order` and `max_ranges`; for a rechunking, `target`, and `chunks` or
--- `order`, if they are wanted; for the copy of a region, `target` and `subset`, and `at` if it is wanted. A rechunking and the copy of a region are
--- made of tasks, if `task_chunks` is there, or `max_elements`, perhaps with `read_elements` and `stage`. `share` or
--- `counts` says what is wanted of the plan, if not all lines; beside a target, `keys` that keys of its store stand behind the document. For a resize
--- it has `resize`, and `keep` if it is wanted, and none of these. What else an array's `zarr.json` has may stand in it and in the target.
+-- `clip`, if they are wanted, and `item_size`, if byte ranges are, with `memory_order` and `max_ranges`; for a rechunking, `target`, and `chunks`, if it
+-- is wanted; for the copy of a region, `target` and `subset`, and `at` if it is wanted. `task_chunks` and `order` say of which tasks a copy is made, or
+-- `max_elements`, `read_elements` and `stage` do. `share` or `counts` says what is wanted of the plan, if not all lines; beside a target, `keys` that
+-- keys of its store stand behind the document. For a resize it has `resize`, and `keep` if it is wanted, and none of these. What else an array's
+-- `zarr.json` has may stand in it and in the target.
 use Rattle.std.specs.Prelude.{◌≡◌, ◌^◌, ◌≤◌}
 use Rattle.programs.specs.chunkplan.Common.{ℕ, Bool, true, false, cond, IsSome, IsTrue, List, Option, Some, None, Result, Ok, Err, bytes_eq, codes}
 use Rattle.programs.specs.chunkplan.Common.{map, nat_lt, option_and_then, option_map, Data, as_bool, as_object, as_str, get, Box, IsBox, edge_of, list_of}
@@ -23,13 +23,14 @@ use Rattle.programs.specs.declared.chunkplan.document.Document.{Document as Docu
 use Rattle.programs.specs.declared.chunkplan.document.Task.{Task as TaskValue}
 use Rattle.programs.specs.declared.chunkplan.document.Copying.{Copying as CopyingValue}
 use Rattle.programs.specs.declared.chunkplan.document.RegionAsked.{RegionAsked}
+use Rattle.programs.specs.declared.chunkplan.document.Selection.{Selection as SelectionValue}
 use Rattle.programs.specs.declared.chunkplan.task_choice.TaskChoice.{TaskChoice as ChoiceValue}
 use Rattle.programs.specs.declared.chunkplan.task_choice.TaskChoice.TheVariants.{Cheapest as CheapestValue, Given as GivenValue}
 use Rattle.programs.specs.declared.chunkplan.document.Wanted.{Wanted as WantedValue}
 use Rattle.programs.specs.declared.chunkplan.document.Wanted.TheVariants.{Counts as CountsValue, Lines as LinesValue}
 use Rattle.programs.specs.declared.chunkplan.run_fault.RunFault.TheVariants as fault
 use Rattle.programs.specs.declared.chunkplan.document.Task.TheVariants as task
-use Rattle.programs.specs.declared.chunkplan.document.Copying.TheVariants as copying
+use Rattle.programs.specs.declared.chunkplan.document.Selection.TheVariants as selection
 
 -- how byte ranges are wanted in lines: of how many bytes an element is, in which order a chunk's elements are stored, and up to how many are listed
 pub record RangesWanted : Type 0 where
@@ -43,19 +44,22 @@ pub record RegionWanted : Type 0 where
   pub elements : Box
   pub at : Option (List ℕ)
 
--- Which tasks a copy is made of. Each takes these numbers of neighbouring chunks of the target, or of the source. Or they are chosen: the cheapest ones
--- that hold at most `most` elements, if one read is worth `read` elements, and perhaps the tasks of one stage alone.
+-- Which tasks a copy is made of. Each takes these numbers of neighbouring chunks of the target, or of the source, and without numbers one chunk. Or they
+-- are chosen: the cheapest ones that hold at most `most` elements, if one read is worth `read` elements, and perhaps the tasks of one stage alone.
 pub data TaskChoice : Type 0 where
-  given : Order → (each : List ℕ) → TaskChoice
+  given : Order → (each : Option (List ℕ)) → TaskChoice
   cheapest : (most read : ℕ) → (stage : Option ℕ) → TaskChoice
 
--- What is copied to another array. All goes into the chunks of a box, or into all chunks. Or all goes in the order of the source, a line for each of
--- its chunks. Or a region goes. Or all goes by tasks, or a region.
-pub data Copying : Type 0 where
-  into_chunks : Option Box → Copying
-  by_source : Copying
-  to_region : RegionWanted → Copying
-  by_tasks : TaskChoice → Option RegionWanted → Copying
+-- which elements are copied to another array: all, those that go into the chunks of a box, or a region
+pub data Selection : Type 0 where
+  all_elements : Selection
+  into_chunks : Box → Selection
+  of_region : RegionWanted → Selection
+
+-- what is copied, and by which tasks
+pub record Copying : Type 0 where
+  pub choice : TaskChoice
+  pub selection : Selection
 
 -- What is asked for. It is a read of a box of elements or of all, as it is or clipped to the array, and perhaps with byte ranges. Or it is a copy to an
 -- array that is stored in some way. Or it is a resize of the array to another shape, with or without the chunks that stay as they are stored.
@@ -85,14 +89,16 @@ abbrev pub region_asked_of : RegionAsked → RegionWanted
 region_asked_of region = record { shape = region.shape.items; elements = region.elements; at = option_map (λ v. v.items) region.at }
 
 abbrev pub choice_of : ChoiceValue → TaskChoice
-choice_of (GivenValue order each) = given order (map non_zero_u64_get each.items)
+choice_of (GivenValue order each) = given order (option_map (λ v. map non_zero_u64_get v.items) each)
 choice_of (CheapestValue most read stage) = cheapest most read (option_map non_zero_u64_get stage)
 
+abbrev pub selection_of : SelectionValue → Selection
+selection_of selection.All = all_elements
+selection_of (selection.Chunks chunks) = into_chunks chunks
+selection_of (selection.Region region) = of_region (region_asked_of region)
+
 abbrev pub copying_of : CopyingValue → Copying
-copying_of (copying.Chunks chunks) = into_chunks chunks
-copying_of copying.BySource = by_source
-copying_of (copying.Region region) = to_region (region_asked_of region)
-copying_of (copying.Tasks choice region) = by_tasks (choice_of choice) (option_map region_asked_of region)
+copying_of copying = record { choice = choice_of copying.choice; selection = selection_of copying.selection }
 
 abbrev pub task_of : TaskValue → Task
 task_of (task.Read subset clip ranges) = read_of subset clip (option_map ranges_asked_of ranges)
@@ -178,22 +184,20 @@ box_in field d = optional (gives None) (λ m. then (box_of field m) (λ b. gives
 abbrev pub usual_read_elements : ℕ
 usual_read_elements = 2500000
 
--- the cheapest tasks, if a bound of elements is there
-abbrev pub cheapest_in : Data → (most : Option ℕ) → Result (Option TaskChoice) DocumentFault → Type 0
-cheapest_in d None = gives None
-cheapest_in d (Some most) =
+-- the cheapest tasks under a bound of elements; without a bound the tasks of some numbers of chunks, in an order
+abbrev pub choice_by : Data → (most : Option ℕ) → Result TaskChoice DocumentFault → Type 0
+choice_by d (Some most) =
     then (in_form_or usual_read_elements size_of (codes "read_elements") d) (λ read.
     then (optional_in edge_of (codes "stage") d) (λ stage.
-    gives (Some (cheapest most read stage))))
+    gives (cheapest most read stage)))
+choice_by d None =
+    then (optional_in (list_of edge_of) (codes "task_chunks") d) (λ each.
+    then (line_order_in d) (λ order.
+    gives (given order each)))
 
--- the tasks of these numbers of chunks, in an order; the cheapest ones, if there are no numbers
-abbrev pub choice_by : Data → (each : Option (List ℕ)) → Result (Option TaskChoice) DocumentFault → Type 0
-choice_by d (Some each) = then (line_order_in d) (λ order. gives (Some (given order each)))
-choice_by d None = then (optional_in size_of (codes "max_elements") d) (cheapest_in d)
-
--- which tasks the copy is made of, if it is made of tasks
-abbrev pub choice_in : Data → Result (Option TaskChoice) DocumentFault → Type 0
-choice_in d = then (optional_in (list_of edge_of) (codes "task_chunks") d) (choice_by d)
+-- which tasks the copy is made of
+abbrev pub choice_in : Data → Result TaskChoice DocumentFault → Type 0
+choice_in d = then (optional_in size_of (codes "max_elements") d) (choice_by d)
 
 -- ---- which members there are
 
@@ -245,27 +249,19 @@ target_stored_in = stored_in (codes "target.chunk_grid") (codes "target.chunk_ke
 
 -- ---- what is asked for
 
--- a rechunking in an order: by the source, or in that of the target, and then into chunks of a box or into all
-abbrev pub rechunking_by : Data → Stored → Order → Result Task RunFault → Type 0
-rechunking_by d stored Target = then (box_in (codes "chunks") d) (λ chunks. gives (copy_to stored (into_chunks chunks)))
-rechunking_by d stored Source = gives (copy_to stored by_source)
-
--- a rechunking by tasks, or one in an order
-abbrev pub rechunking_with : Data → Stored → Option TaskChoice → Result Task RunFault → Type 0
-rechunking_with d stored (Some choice) = gives (copy_to stored (by_tasks choice None))
-rechunking_with d stored None = then (told of_document (line_order_in d)) (rechunking_by d stored)
+-- the elements that go into the chunks of a box, and all without a box
+abbrev pub into_box : Option Box → Selection
+into_box (Some chunks) = into_chunks chunks
+into_box None = all_elements
 
 -- a rechunking to this target
 abbrev pub rechunking_in : (d target : Data) → Result Task RunFault → Type 0
 rechunking_in d target =
     then (of_array d target) (λ _.
     then (told of_document (target_stored_in target)) (λ stored.
-    then (told of_document (choice_in d)) (rechunking_with d stored)))
-
--- a region, by tasks or not
-abbrev pub region_with : Option TaskChoice → RegionWanted → Copying
-region_with (Some choice) region = by_tasks choice (Some region)
-region_with None region = to_region region
+    then (told of_document (choice_in d)) (λ choice.
+    then (box_in (codes "chunks") d) (λ chunks.
+    gives (copy_to stored (record { choice = choice; selection = into_box chunks }))))))
 
 -- the copy of a region to this target
 abbrev pub region_in : (d target subset : Data) → Result Task RunFault → Type 0
@@ -276,7 +272,10 @@ region_in d target subset =
     then (box_of (codes "subset") subset) (λ elements.
     then (told of_document (optional_in (list_of size_of) (codes "at") d)) (λ at.
     then (told of_document (choice_in d)) (λ choice.
-    gives (copy_to stored (region_with choice (record { shape = shape; elements = elements; at = at })))))))))
+    gives (copy_to stored (record {
+      choice = choice;
+      selection = of_region (record { shape = shape; elements = elements; at = at });
+    }))))))))
 
 -- What is copied: without a target, what is read; with one, which is an object, a region, where `subset` is there, or else a rechunking.
 abbrev pub copying_in : Data → (target : Option Data) → Result Task RunFault → Type 0
@@ -314,12 +313,7 @@ form_in d =
 abbrev pub document_in : (input : List ℕ) → Result Document RunFault → Type 0
 document_in input = then (told of_document (object_in input)) form_in
 
--- the lines of a rechunking in the order of the target, or of the copy of a region, are asked for
-abbrev pub HasGroups : Copying → Type 0
-HasGroups (into_chunks chunks) = Unit {0}
-HasGroups (to_region region) = Unit {0}
-HasGroups _ = ⊥
-
+-- the lines of a copy are asked for
 abbrev pub AsksForLinesOfCopy : Document → Type 0
 AsksForLinesOfCopy document = ((share : Share) × (document.wanted ≡ lines_wanted share))
-    × ((stored : Stored) × (copied : Copying) × (document.task ≡ copy_to stored copied) × HasGroups copied)
+    × ((stored : Stored) × (copied : Copying) × (document.task ≡ copy_to stored copied))

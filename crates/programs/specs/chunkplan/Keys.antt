@@ -1,13 +1,16 @@
 -- Keys behind a document, a line each, and what they leave of a plan.
 -- Source: the form of the input and of the lines is this program's own.
 use Rattle.std.specs.Prelude.{◌≡◌, ◌≢◌, ◌↔◌, ◌⊎◌, ◌≤◌, ◌<◌, ◌^◌, ◌==◌, ◌&&◌, ◌+◌, if◌then◌else◌, ◌∷◌, ◌++◌}
-use Rattle.programs.specs.chunkplan.Common.{ℕ, suc, pred, take, Bool, true, IsTrue, List, [], Contains, length, codes, Some, Ok, slice_get, IsUtf8}
-use Rattle.programs.specs.chunkplan.Common.{Json, string, object, no_members, member, Data, Dimension, IsJsonOf, EndsInSlash, counted, Group}
-use Rattle.programs.specs.chunkplan.Common.{before_share, share_of, Share, Target, RunFault, KeyNotText, TooManyForKeys}
+use Rattle.programs.specs.chunkplan.Common.{ℕ, suc, pred, take, Bool, true, IsTrue, List, [], Contains, length, codes, Ok, AllByRecursion, IsUtf8}
+use Rattle.programs.specs.chunkplan.Common.{Json, string, object, no_members, member, Box, Data, Dimension, IsJsonOf, EndsInSlash, IsKey, counted}
+use Rattle.programs.specs.chunkplan.Common.{before_share, share_of, moved, Part, Share, TaskPlan, RunFault, KeyNotText, TooManyForKeys}
 use Rattle.std.specs.Io.BufRead.{drop_through, take_through}
+use Rattle.zarrs_chunks.specs.Walks.{chunks_in}
+use Rattle.zarrs_chunk_parts.specs.Plan.{Covers}
 use Rattle.zarrs_chunk_plan.specs.StoredChunks.{IsListed, IsOfArray}
 use Rattle.programs.specs.chunkplan.Document.{flag_in}
-use Rattle.programs.specs.chunkplan.Line.{group_line, line_of, lines_from}
+use Rattle.programs.specs.chunkplan.Line.{line_of, lines_from, task_line}
+use Rattle.programs.specs.chunkplan.Stages.{Stage, target_dimensions}
 
 -- ---- the input
 
@@ -54,19 +57,18 @@ AsStoreKey IsKeyOf chunk key = (¬ EndsInSlash key) × IsKeyOf chunk key
 
 module _ (IsKeyOf : List ℕ → List ℕ → Type 0) (keys : List (List ℕ)) where
   -- a chunk needn't be written: it would be written whole, and a key of it is listed
-  abbrev pub IsThere : Group → Type 0
-  IsThere group = IsTrue group.0.whole × IsListed (AsStoreKey IsKeyOf) keys group.0.chunk.items
+  abbrev pub IsThere : Part → Type 0
+  IsThere part = IsTrue part.whole × IsListed (AsStoreKey IsKeyOf) keys part.chunk.items
 
-  -- of which groups that holds, by their numbers
-  abbrev pub TellsThere : List Group → (ℕ → Group → Bool) → Type 0
-  TellsThere groups is_there =
-      (number : ℕ) (group : Group) → slice_get groups number ≡ Some group → IsTrue (is_there number group) ↔ IsThere group
+  -- a task is done if it needn't write any of its chunks
+  abbrev pub TellsDone : List TaskPlan → (TaskPlan → Bool) → Type 0
+  TellsDone plans is_done = AllByRecursion (λ (plan : TaskPlan). IsTrue (is_done plan) ↔ AllByRecursion IsThere plan.1.1) plans
 
--- the lines of a share of a plan, without those of the groups that are there
-abbrev pub missing_lines : (ℕ → Group → Bool) → Share → List Group → List ℕ
-missing_lines is_there share groups =
-    lines_from (λ n group. if is_there n group then [] else group_line Target (counted n) (counted (length groups)) group)
-    (before_share share.number share.of (length groups)) (share_of share groups)
+-- the lines of a share of the tasks, without those of the tasks that are done
+abbrev pub missing_lines : (TaskPlan → Bool) → Share → List TaskPlan → List ℕ
+missing_lines is_done share plans =
+    lines_from (λ n plan. if is_done plan then [] else task_line (counted n) (counted (length plans)) plan)
+    (before_share share.number share.of (length plans)) (share_of share plans)
 
 -- ---- keys of others
 
@@ -91,17 +93,22 @@ foreign_lines (key ∷ keys) = line_of (foreign_json key) ++ foreign_lines keys
 
 -- ---- both
 
--- What is written of a share of a plan where a store has these keys: the lines of what it hasn't, and behind them the keys that are none of the
--- target's. The plan has fewer lines than 2 ^ 29, and each key is a text.
-pub record IsMissingText (target : List Dimension) (IsKeyOf : List ℕ → List ℕ → Type 0) (keys : List (List ℕ)) (share : Share) (groups : List Group)
-    (text : List ℕ) : Type 0 where
-  pub few : length groups < 2 ^ 29
+-- how many chunks of the target take elements of the stage's region
+abbrev pub WritesChunks : Stage → (count : ℕ) → Type 0
+WritesChunks stage count = (cover : Box) × Covers (target_dimensions stage) (moved stage.at stage.region) cover × (count ≡ length (chunks_in cover))
+
+-- The store of a stage's target has these keys. What is written of a share of the stage are the lines of the tasks that aren't done, and after them the
+-- foreign keys. The stage writes fewer than 2 ^ 29 chunks, and each key is a text.
+pub record IsMissingText (stage : Stage) (keys : List (List ℕ)) (share : Share) (plans : List TaskPlan) (text : List ℕ) : Type 0 where
+  pub count : ℕ
+  pub writes : WritesChunks stage count
+  pub few : count < 2 ^ 29
   pub are_texts : (key : List ℕ) → Contains keys key → IsUtf8 key
-  pub is_there : ℕ → Group → Bool
-  pub tells : TellsThere IsKeyOf keys groups is_there
+  pub is_done : TaskPlan → Bool
+  pub tells : TellsDone (IsKey stage.target.1) keys plans is_done
   pub foreign : List (List ℕ)
-  pub are_foreign : AreForeign target IsKeyOf keys foreign
-  pub text_is : text ≡ missing_lines is_there share groups ++ foreign_lines foreign
+  pub are_foreign : AreForeign (target_dimensions stage) (IsKey stage.target.1) keys foreign
+  pub text_is : text ≡ missing_lines is_done share plans ++ foreign_lines foreign
 
 -- The first line that is no text has this number, if the lines are counted from a first number on.
 pub data IsFirstNoText : (first : ℕ) (bytes : List ℕ) (number : ℕ) → Type 0 where
@@ -109,8 +116,8 @@ pub data IsFirstNoText : (first : ℕ) (bytes : List ℕ) (number : ℕ) → Typ
   behind : (first : ℕ) (bytes : List ℕ) (number : ℕ) → IsUtf8 (unended bytes) → IsFirstNoText (first + 1) (behind_first bytes) number
       → IsFirstNoText first bytes number
 
--- the fault says that the plan has too many lines; or else which line is the first that is no text, where the document is line 1
-abbrev pub IsKeysFault : List Group → (bytes : List ℕ) → RunFault → Type 0
-IsKeysFault groups bytes TooManyForKeys = 2 ^ 29 ≤ length groups
-IsKeysFault groups bytes (KeyNotText line) = (length groups < 2 ^ 29) × IsFirstNoText 2 bytes line
-IsKeysFault groups bytes _ = ⊥
+-- the fault says that the stage writes too many chunks; or else which line is the first that is no text, where the document is line 1
+abbrev pub IsKeysFault : Stage → (bytes : List ℕ) → RunFault → Type 0
+IsKeysFault stage bytes TooManyForKeys = (count : ℕ) × WritesChunks stage count × (2 ^ 29 ≤ count)
+IsKeysFault stage bytes (KeyNotText line) = ((count : ℕ) × WritesChunks stage count × (count < 2 ^ 29)) × IsFirstNoText 2 bytes line
+IsKeysFault stage bytes _ = ⊥

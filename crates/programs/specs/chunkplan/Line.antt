@@ -3,8 +3,7 @@
 use Rattle.std.specs.Prelude.{◌∷◌, ◌++◌}
 use Rattle.programs.specs.chunkplan.Common.{ℕ, suc, Bool, true, false, List, [], length, codes, cond, decimal, nat_le, Option, Some, None, Json, null, number, string}
 use Rattle.programs.specs.chunkplan.Common.{array, object, Items, no_items, item, Members, no_members, member, print, json_tokens, Box, counted}
-use Rattle.programs.specs.chunkplan.Common.{Group, shifted, before_share, share_of, MemoryOrder, Part, ChunkChange, Share, order_text, Order, Source}
-use Rattle.programs.specs.chunkplan.Common.{Target, TaskPlan}
+use Rattle.programs.specs.chunkplan.Common.{before_share, share_of, MemoryOrder, Part, ChunkChange, Share, order_text, TaskPlan}
 use Rattle.json.specs.Json.{boolean}
 use Rattle.zarrs_chunk_plan.specs.Bytes.{begins}
 use Rattle.zarrs_chunk_plan.specs.Strided.{Strided, ranges_of}
@@ -92,73 +91,17 @@ read_lines wanted share parts =
     lines_from (λ n part. line_of (part_json (counted n) (counted (length parts)) wanted part))
     (before_share share.number share.of (length parts)) (share_of share parts)
 
--- ---- a rechunking, and the copy of a region
-
--- what the box of the line's chunk is called in a piece of the line
-abbrev pub place_name : Order → List ℕ
-place_name Target = codes "in_target"
-place_name Source = codes "in_source"
-
--- in the order of the source, whether a piece is all that its chunk of the target has of the array, so that nothing else writes it
-abbrev pub whole_members : Order → Part → Members
-whole_members Target part = no_members
-whole_members Source part = member (codes "whole") (boolean part.whole) no_members
-
--- What the chunk of a line shares with a chunk of the other grid: that chunk, the box of it, the box of the line's chunk, and the other chunk's key and
--- shape. In the order of the target, the line's chunk gets it; in that of the source, it gives it. What the line's chunk has in all begins at `first`.
-abbrev pub piece_json : Order → (first : List ℕ) → Part → Json
-piece_json order first part =
-    object (member (codes "chunk") (numbers_json part.chunk.items)
-    (member (codes "in_chunk") (box_json part.in_chunk)
-    (member (place_name order) (box_json (shifted first part.in_subset))
-    (member (codes "key") (string part.key)
-    (member (codes "shape") (numbers_json part.shape.items) (whole_members order part))))))
-
--- the items of a list, one for each part
-abbrev pub items_of : (Part → Json) → List Part → Items
-items_of json [] = no_items
-items_of json (part ∷ parts) = item (json part) (items_of json parts)
-
--- the chunk that a line is for: its numbers, its key and its shape
-abbrev pub chunk_json : Part → Json
-chunk_json part =
-    object (member (codes "chunk") (numbers_json part.chunk.items)
-    (member (codes "key") (string part.key)
-    (member (codes "shape") (numbers_json part.shape.items) no_members)))
-
--- behind the sources of a chunk of the target: which line of how many it is, the chunk, and whether the boxes are all that it has of its array
-abbrev pub end_members : (at of : Option ℕ) → Part → Members
-end_members at of to =
-    member (codes "number") (count_json at)
-    (member (codes "of") (count_json of)
-    (member (codes "to") (chunk_json to)
-    (member (codes "whole") (boolean to.whole) no_members)))
-
--- all that is copied into a chunk of the target; or, in the order of the source, from one of the source
-abbrev pub group_json : Order → (at of : Option ℕ) → Group → Json
-group_json Target at of group =
-    object (member (codes "from") (array (items_of (piece_json Target group.0.in_chunk.start) group.1)) (end_members at of group.0))
-group_json Source at of group =
-    object (member (codes "from") (chunk_json group.0)
-    (member (codes "number") (count_json at)
-    (member (codes "of") (count_json of)
-    (member (codes "to") (array (items_of (piece_json Source group.0.in_chunk.start) group.1)) no_members))))
-
-abbrev pub group_line : Order → (at of : Option ℕ) → Group → List ℕ
-group_line order at of group = line_of (group_json order at of group)
-
--- the lines of a share of a rechunking, or of the copy of a region
-abbrev pub rechunking_lines : Order → Share → List Group → List ℕ
-rechunking_lines order share groups =
-    lines_from (λ n. group_line order (counted n) (counted (length groups))) (before_share share.number share.of (length groups))
-    (share_of share groups)
-
 -- ---- tasks
 
 -- of what a task writes, whether the part is all that its chunk has of the array, so that the chunk needn't be read first
 abbrev pub whole_if : (written : Bool) → Part → Members
 whole_if true part = member (codes "whole") (boolean part.whole) no_members
 whole_if false part = no_members
+
+-- the items of a list, one for each part
+abbrev pub items_of : (Part → Json) → List Part → Items
+items_of json [] = no_items
+items_of json (part ∷ parts) = item (json part) (items_of json parts)
 
 -- what a chunk and the buffer of a task share: the chunk, the box in the buffer, the box in the chunk, and the chunk's key and shape
 abbrev pub overlap_json : (written : Bool) → Part → Json

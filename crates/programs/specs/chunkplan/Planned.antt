@@ -1,11 +1,9 @@
 -- What the program writes for a document, or why it writes nothing.
 use Rattle.std.specs.Prelude.{◌≡◌, ◌≢◌, ◌⊎◌}
-use Rattle.programs.specs.chunkplan.Common.{ℕ, Bool, true, false, List, length, Option, None, Some, Result, Ok, Err, replicate}
-use Rattle.programs.specs.chunkplan.Common.{unwrap_or, Box, IsBox, IsEmptyBox, IsInside, lasts, Dimension, array_sizes, IsKey, IsGrid}
-use Rattle.programs.specs.chunkplan.Common.{IsGridFault, AreCopyCounts, AreReadCounts, AreTargets, Group, IsRechunking}
-use Rattle.programs.specs.chunkplan.Common.{all_chunks_box, array_box, AnyChunk, IsRegionCopy, IsRegionFault, moved}
-use Rattle.programs.specs.chunkplan.Common.{RegionError, Counts, Part, ChunkChange, Share, made_of, then}
-use Rattle.programs.specs.chunkplan.Common.{told, Stored, array_of, Order, Source, Target, RunFault, Copies}
+use Rattle.programs.specs.chunkplan.Common.{ℕ, Bool, true, false, List, length, Option, Result, Ok, Err, replicate}
+use Rattle.programs.specs.chunkplan.Common.{unwrap_or, Box, IsEmptyBox, lasts, Dimension, IsKey, IsGrid, IsGridFault, AreElementsOf, AreReadCounts}
+use Rattle.programs.specs.chunkplan.Common.{array_box, Counts, Part, ChunkChange, Share, TaskPlan, made_of, then}
+use Rattle.programs.specs.chunkplan.Common.{told, Stored, array_of, RunFault, ChunksDimensionality}
 use Rattle.programs.specs.chunkplan.Common.{KeysOfLongDocument, NotJson, ResizedGrid, SubsetDimensionality, Uncovered}
 use Rattle.zarrs_chunk_base.specs.Grid.{Grid}
 use Rattle.zarrs_chunk_base.specs.Refusal.{TellsLengths}
@@ -14,14 +12,13 @@ use Rattle.zarrs_chunks.specs.Subsets.{HasNoHome}
 use Rattle.zarrs_chunk_plan.specs.Clip.{IsClipped}
 use Rattle.zarrs_chunk_parts.specs.Plan.{IsPlan}
 use Rattle.zarrs_chunk_plan.specs.Resize.{IsResizePlan}
-use Rattle.zarrs_chunk_plan.specs.declared.copy.copies_error.CopiesError.TheVariants.{Chunks}
 use Rattle.programs.specs.chunkplan.CountsLine.{IsCountsLine, IsStagesLine}
-use Rattle.programs.specs.chunkplan.Document.{Copying, Document, document_in, RangesWanted, RegionWanted, Task, TaskChoice, Wanted, by_source, by_tasks}
-use Rattle.programs.specs.chunkplan.Document.{copy_to, counts_wanted, into_chunks, lines_wanted, read_of, resize_to, to_region}
+use Rattle.programs.specs.chunkplan.Document.{Copying, Document, document_in, RangesWanted, Selection, Task, Wanted, all_elements, copy_to}
+use Rattle.programs.specs.chunkplan.Document.{counts_wanted, into_chunks, lines_wanted, of_region, read_of, resize_to}
 use Rattle.programs.specs.chunkplan.Keys.{AreKeys, HasKeysBehind, IsKeysFault, IsMissingText, behind_first, closed_lines, first_line}
-use Rattle.programs.specs.chunkplan.Line.{read_lines, rechunking_lines, resize_lines, task_lines}
-use Rattle.programs.specs.chunkplan.RunFault.{of_create, of_region, of_target}
-use Rattle.programs.specs.chunkplan.Stages.{IsFaultOfSome, Stages, asked_in, number_asked, plans_in, stages_in}
+use Rattle.programs.specs.chunkplan.Line.{read_lines, resize_lines, task_lines}
+use Rattle.programs.specs.chunkplan.RunFault.{of_create, of_target}
+use Rattle.programs.specs.chunkplan.Stages.{IsFaultOfSome, Stage, Stages, asked_in, number_asked, plans_in, stages_in}
 
 -- an array as it is stored: its grid and its encoding
 abbrev pub Array : Type 0
@@ -73,107 +70,62 @@ read_text wanted clip ranges array subset (Err fault) = IsReadFault clip array.0
 
 -- ---- a copy
 
--- what is written of the plan of a copy into chosen chunks
-abbrev pub IsCopyText : Order → Wanted → (source target : List Dimension) → (region : Box) → (at : List ℕ) → (Chosen : List ℕ → Type 0) → List Group
-    → List ℕ → Type 0
-IsCopyText order (lines_wanted share) source target region at Chosen groups text = text ≡ rechunking_lines order share groups
-IsCopyText order counts_wanted source target region at Chosen groups text =
-    (targets : Box) × IsBox targets × AreTargets target (moved at region) Chosen targets
-    × ((counts : Counts) × AreCopyCounts source target region targets groups counts × IsCountsLine counts text)
-
--- so of a rechunking into the chunks of a box
-abbrev pub IsRechunkingText : Order → Wanted → (source target : List Dimension) → (chunks : Box) → List Group → List ℕ → Type 0
-IsRechunkingText order wanted source target chunks =
-    IsCopyText order wanted source target (array_box target) (array_box target).start (IsInside chunks)
-
 -- the fault says that the box of chunks has another number of dimensions than the target
 abbrev pub IsChunksFault : List Dimension → Box → RunFault → Type 0
-IsChunksFault ds chunks (Copies (Chunks e)) = (length chunks.start ≢ length ds) × TellsLengths (length chunks.start) (length ds) e
+IsChunksFault ds chunks (ChunksDimensionality e) = (length chunks.start ≢ length ds) × TellsLengths (length chunks.start) (length ds) e
 IsChunksFault ds chunks _ = ⊥
 
--- the rechunking into the chunks of a box
-abbrev pub rechunking_of : (source : Array) → (chunks : Box) → (target : Array) → Result (List Group) RunFault → Type 0
-rechunking_of source chunks target (Ok groups) =
-    IsRechunking source.0.dimensions (IsKey source.1) target.0.dimensions (IsKey target.1) chunks groups
-    × (length chunks.start ≡ length target.0.dimensions)
-rechunking_of source chunks target (Err fault) = IsChunksFault target.0.dimensions chunks fault
+-- The elements that are copied, as a box of the source's array, or the fault of the box of chunks. What goes into chunks of the target are the elements
+-- that these chunks hold, since both arrays have one shape then.
+abbrev pub elements_in : Selection → (source target : List Dimension) → Result Box RunFault → Type 0
+elements_in all_elements source target (Ok elements) = elements ≡ array_box source
+elements_in all_elements source target (Err fault) = ⊥
+elements_in (into_chunks chunks) source target (Ok elements) = AreElementsOf target chunks elements × (length chunks.start ≡ length target)
+elements_in (into_chunks chunks) source target (Err fault) = IsChunksFault target chunks fault
+elements_in (of_region region) source target (Ok elements) = elements ≡ region.elements
+elements_in (of_region region) source target (Err fault) = ⊥
 
--- the index in the target's array at which a region begins: 0 in each dimension, if no index is given
-abbrev pub begins_at : Box → Option (List ℕ) → List ℕ
-begins_at region at = unwrap_or at (replicate (length region.start) 0)
+-- The index at which they begin in the target's array. It is their own, but for a region, which begins at 0 along each dimension if no index is given.
+abbrev pub begins_at : Selection → (elements : Box) → List ℕ
+begins_at (of_region region) elements = unwrap_or region.at (replicate (length elements.start) 0)
+begins_at _ elements = elements.start
 
--- the copy of a region, to begin in the target's array at an index
-abbrev pub region_of : (source : Array) → (region : Box) → (at : List ℕ) → (target : Array) → Result (List Group) RunFault → Type 0
-region_of source region at target (Ok groups) =
-    IsRegionCopy source.0.dimensions (IsKey source.1) target.0.dimensions (IsKey target.1) region at groups
-region_of source region at target (Err fault) =
-    (first : RegionError) × IsRegionFault (array_sizes source.0.dimensions) (array_sizes target.0.dimensions) region at first
-    × (fault ≡ of_region first)
+-- the stages of a copy, or why it has none
+abbrev pub copy_stages : Copying → (source target : Array) → Result Stages RunFault → Type 0
+copy_stages copying source target =
+    then (elements_in copying.selection source.0.dimensions target.0.dimensions)
+    (λ elements. stages_in copying.choice source target elements (begins_at copying.selection elements))
 
--- what is written of each
-abbrev pub rechunking_text : Order → Wanted → (source : Array) → (chunks : Box) → (target : Array) → Result (List ℕ) RunFault → Type 0
-rechunking_text order wanted source chunks target =
-    made_of (rechunking_of source chunks target) (IsRechunkingText order wanted source.0.dimensions target.0.dimensions chunks)
-
-abbrev pub region_text : Wanted → (source : Array) → (region : Box) → (at : List ℕ) → (target : Array) → Result (List ℕ) RunFault → Type 0
-region_text wanted source region at target =
-    made_of (region_of source region at target) (IsCopyText Target wanted source.0.dimensions target.0.dimensions region at AnyChunk)
-
--- ---- tasks
-
--- what is written of the stages of a copy: a share of the lines of the stage that is asked for, or the line of the counts of all
+-- what is written of the stages: a share of the lines of the stage that is asked for, or the line of the counts of all
 abbrev pub stages_text : (asked : Option ℕ) → Wanted → Stages → Result (List ℕ) RunFault → Type 0
 stages_text asked (lines_wanted share) stages r =
     then (asked_in asked stages.1) (λ stage. made_of (plans_in stage) (λ plans text. text ≡ task_lines share plans)) r
 stages_text asked counts_wanted stages (Ok text) = IsStagesLine stages text
 stages_text asked counts_wanted stages (Err fault) = IsFaultOfSome stages.1 fault
 
--- so of the copy of a region, by the tasks that are asked for
-abbrev pub tasks_text : TaskChoice → Wanted → (source target : Array) → (region : Box) → (at : List ℕ) → Result (List ℕ) RunFault → Type 0
-tasks_text choice wanted source target region at =
-    then (stages_in choice source target region at) (stages_text (number_asked choice) wanted)
+-- what is written of a copy
+abbrev pub copy_text : Copying → Wanted → (source target : Array) → Result (List ℕ) RunFault → Type 0
+copy_text copying wanted source target = then (copy_stages copying source target) (stages_text (number_asked copying.choice) wanted)
 
--- ---- any copy
+-- The store of a stage's target has the keys in some lines. What is written of a share of the stage then, or why it has no tasks, or the fault of the
+-- keys.
+abbrev pub missing_of : Share → (bytes : List ℕ) → Stage → List TaskPlan → Result (List ℕ) RunFault → Type 0
+missing_of share bytes stage plans (Ok text) = (keys : List (List ℕ)) × AreKeys bytes keys × IsMissingText stage keys share plans text
+missing_of share bytes stage plans (Err fault) = IsKeysFault stage bytes fault
+
+abbrev pub missing_text : Share → (bytes : List ℕ) → Stage → Result (List ℕ) RunFault → Type 0
+missing_text share bytes stage = then (plans_in stage) (missing_of share bytes stage)
+
+-- so of the stage of a copy that is asked for
+abbrev pub copy_beside : Copying → Share → (bytes : List ℕ) → (source target : Array) → Result (List ℕ) RunFault → Type 0
+copy_beside copying share bytes source target =
+    then (copy_stages copying source target) (λ stages.
+    then (asked_in (number_asked copying.choice) stages.1) (missing_text share bytes))
 
 -- the shape of the target: the array's own, but for a region
-abbrev pub target_shape : Copying → (own : List ℕ) → List ℕ
-target_shape (to_region region) own = region.shape
-target_shape (by_tasks choice (Some region)) own = region.shape
+abbrev pub target_shape : Selection → (own : List ℕ) → List ℕ
+target_shape (of_region region) own = region.shape
 target_shape _ own = own
-
--- the elements that tasks copy, a region or the whole array, and the index that is given for them
-abbrev pub elements_of : List Dimension → Option RegionWanted → Box
-elements_of ds (Some region) = region.elements
-elements_of ds None = array_box ds
-
-abbrev pub index_of : Option RegionWanted → Option (List ℕ)
-index_of (Some region) = region.at
-index_of None = None
-
--- What is written of it. A rechunking in the order of the source is planned the other way round. For each chunk of the source it has what is copied
--- into it from the chunks of the target, which is what it gives to them. No document asks for the counts of that.
-abbrev pub copy_text : Copying → Wanted → (source target : Array) → Result (List ℕ) RunFault → Type 0
-copy_text (into_chunks chunks) wanted source target =
-    rechunking_text Target wanted source (unwrap_or chunks (all_chunks_box target.0.dimensions)) target
-copy_text by_source wanted source target = rechunking_text Source wanted target (all_chunks_box source.0.dimensions) source
-copy_text (to_region region) wanted source target = region_text wanted source region.elements (begins_at region.elements region.at) target
-copy_text (by_tasks choice region) wanted source target =
-    tasks_text choice wanted source target (elements_of source.0.dimensions region) (begins_at (elements_of source.0.dimensions region) (index_of region))
-
--- What is written of a share of a plan to this target if its store has the keys in some lines; or what is wrong with these keys.
-abbrev pub missing_text : Share → (bytes : List ℕ) → (target : Array) → List Group → Result (List ℕ) RunFault → Type 0
-missing_text share bytes target groups (Ok text) = (keys : List (List ℕ)) × AreKeys bytes keys
-    × IsMissingText target.0.dimensions (IsKey target.1) keys share groups text
-missing_text share bytes target groups (Err fault) = IsKeysFault groups bytes fault
-
--- so of a rechunking in the order of the target, or of the copy of a region
-abbrev pub groups_of : Copying → (source target : Array) → Result (List Group) RunFault → Type 0
-groups_of (into_chunks chunks) source target = rechunking_of source (unwrap_or chunks (all_chunks_box target.0.dimensions)) target
-groups_of (to_region region) source target = region_of source region.elements (begins_at region.elements region.at) target
-groups_of _ source target = λ _. ⊥
-
-abbrev pub copy_beside : Copying → Share → (bytes : List ℕ) → (source target : Array) → Result (List ℕ) RunFault → Type 0
-copy_beside copying share bytes source target = then (groups_of copying source target) (missing_text share bytes target)
 
 -- ---- a resize
 
@@ -196,7 +148,7 @@ abbrev pub text_by : Document → (source : Array) → Task → Result (List ℕ
 text_by document source (read_of subset clip ranges) =
     read_text document.wanted clip ranges source (unwrap_or subset (array_box source.0.dimensions))
 text_by document source (copy_to stored copying) =
-    then (target_in stored (target_shape copying document.shape)) (copy_text copying document.wanted source)
+    then (target_in stored (target_shape copying.selection document.shape)) (copy_text copying document.wanted source)
 text_by document source (resize_to shape keep) = made_of (resized_in document.stored shape) (IsResizeText keep source)
 
 abbrev pub text_of : Document → Result (List ℕ) RunFault → Type 0
@@ -205,7 +157,7 @@ text_of document = then (source_in document) (λ source. text_by document source
 -- so before lines of keys: of the lines of a share of such a copy
 abbrev pub beside_by : Document → (bytes : List ℕ) → Wanted → Task → (source : Array) → Result (List ℕ) RunFault → Type 0
 beside_by document bytes (lines_wanted share) (copy_to stored copying) source =
-    then (target_in stored (target_shape copying document.shape)) (copy_beside copying share bytes source)
+    then (target_in stored (target_shape copying.selection document.shape)) (copy_beside copying share bytes source)
 beside_by document bytes _ _ source = λ _. ⊥
 
 abbrev pub text_beside : Document → (bytes : List ℕ) → Result (List ℕ) RunFault → Type 0

@@ -1,7 +1,7 @@
 -- The stages of a copy by tasks: one array after another, each written by tasks from the one before.
 -- Source: this program's own; the tasks and their choice come from `zarrs_chunk_tasks`.
 use Rattle.std.specs.Prelude.{◌≡◌, ◌≢◌, ◌⊎◌, ◌<◌, ◌∷◌}
-use Rattle.programs.specs.chunkplan.Common.{ℕ, Bool, List, [], length, map, pred, slice_get, AllByRecursion, Option, None, Some, Result, Ok, Err}
+use Rattle.programs.specs.chunkplan.Common.{ℕ, Bool, List, [], length, map, pred, replicate, slice_get, unwrap_or, AllByRecursion, Option, None, Some, Result, Ok, Err}
 use Rattle.programs.specs.chunkplan.Common.{Contains, non_zero_u64_get, Box, IsEmptyBox, Dimension, array_sizes, IsKey, default_keys, grid_kind}
 use Rattle.programs.specs.chunkplan.Common.{regular, array_box, IsRegionFault, RegionError, Order, Source, Target, RunFault, NoSuchStage}
 use Rattle.programs.specs.chunkplan.Common.{NoTasksFit, SeveralStages, TooManyToChoose, TooManyToCount, CopyTask, CountsAlong, TaskPlan, TasksError, moved}
@@ -131,7 +131,8 @@ Stages = Option Bool × List Stage
 
 -- the stages of a copy, or why it has none
 abbrev pub stages_in : TaskChoice → (source target : Grid × Encoding) → (region : Box) → (at : List ℕ) → Result Stages RunFault → Type 0
-stages_in (given order each) source target region at (Ok stages) = stages ≡ (None, staged order source target region at [] (each ∷ []))
+stages_in (given order each) source target region at (Ok stages) =
+    stages ≡ (None, staged order source target region at [] (unwrap_or each (replicate (length source.0.dimensions) 1) ∷ []))
 stages_in (given order each) source target region at (Err fault) = ⊥
 stages_in (cheapest most read asked) source target region at (Ok stages) =
     (found : CheapestStages) × AreCheapest source.0.dimensions target.0.dimensions region at most read found

@@ -1,19 +1,16 @@
 //! The program's document.
 ghost use Rattle.std.specs.Prelude.{◌≡◌};
-ghost use Rattle.programs.specs.chunkplan.Common.{None, option_map, view, IsRead, IsReadOr, stored_of, Memory, Unknown, UnknownOfTarget};
+ghost use Rattle.programs.specs.chunkplan.Common.{option_map, view, IsRead, IsReadOr, stored_of, Memory, Unknown, UnknownOfTarget};
 ghost use Rattle.documents.specs.declared.document_fault.DocumentFault.TheVariants.{Memory as DocumentMemory};
 ghost use Rattle.programs.specs.chunkplan.Document.{checked_in, copying_in, document_in, document_of, form_in, known_in, object_of, of_array};
-ghost use Rattle.programs.specs.chunkplan.Document.{of_type, rechunking_in, rechunking_with, region_in, target_stored_in, task_in, task_of};
-ghost use Rattle.programs.specs.chunkplan.Document.{choice_of, copying_of, region_asked_of, region_with, wanted_in, wanted_of};
+ghost use Rattle.programs.specs.chunkplan.Document.{into_box, of_type, rechunking_in, region_in, selection_of, target_stored_in, task_in, task_of};
+ghost use Rattle.programs.specs.chunkplan.Document.{wanted_in, wanted_of};
 ghost use Rattle.programs.specs.chunkplan.Known.{known_members, zarr_json_members};
 
 use crate::chunkplan::RunFault;
 use crate::chunkplan::known_members::{DOCUMENT, ZARR_JSON, agree, check_known};
-use crate::chunkplan::line::Order;
 use crate::chunkplan::member_rules::check_rules;
-use crate::chunkplan::members::{
-    member_box, member_flag, member_numbers, member_order, member_share, read_box,
-};
+use crate::chunkplan::members::{member_box, member_flag, member_numbers, member_share, read_box};
 use crate::chunkplan::ranges::{RangesAsked, member_ranges};
 use crate::chunkplan::task_choice::{TaskChoice, member_choice};
 use documents::{DocumentFault, Stored, check_members, read_object, read_shape, take_stored};
@@ -40,17 +37,22 @@ pub(crate) enum Task {
     },
 }
 
-/// What is copied to another array.
+/// What is copied to another array, and by which tasks.
 #[derive(Drop)]
-pub(crate) enum Copying {
-    /// All that goes into the chunks of a box of chunk numbers, or into all chunks.
-    Chunks(Option<ArraySubset>),
-    /// All, in the order of the source: a line for each of its chunks.
-    BySource,
+pub(crate) struct Copying {
+    pub(crate) choice: TaskChoice,
+    pub(crate) selection: Selection,
+}
+
+/// Which elements are copied to another array.
+#[derive(Drop)]
+pub(crate) enum Selection {
+    /// All.
+    All,
+    /// Those that go into the chunks of a box of the target's chunk numbers.
+    Chunks(ArraySubset),
     /// A region.
     Region(RegionAsked),
-    /// All, or a region, in tasks.
-    Tasks(TaskChoice, Option<RegionAsked>),
 }
 
 /// A region that is copied to another array.
@@ -89,7 +91,7 @@ pub(crate) struct Document {
 /// # Errors
 /// The first that applies: the input is no JSON, or no object; a member isn't known; one is missing; one doesn't go with the others; one isn't of its
 /// form, of `shape`, `counts`, `share`, `keys`, `chunk_grid`, `chunk_key_encoding`, and of `resize` and `keep`, of `subset`, `clip` and byte ranges,
-/// of `target`, the tasks, `order` and `chunks`, or of `target`, `subset`, `at` and the tasks; before its own members, the target has one that
+/// of `target`, the tasks and `chunks`, or of `target`, `subset`, `at` and the tasks; before its own members, the target has one that
 /// isn't known, or is of another array, or for a region of another data type. Or out of memory.
 pub(crate) fn parse(alloc: Global, input: &[u8]) -> Result<Document, RunFault>
     ensures { IsReadOr Memory document_of (document_in input.now) result }
@@ -239,23 +241,19 @@ fn rechunking_to(alloc: Global, tree: &Value, mut target: Value) -> Result<Task,
 {
     check_target(alloc, tree, &target)?;
     let stored = take_target(alloc, &mut target)?;
-    match member_choice(alloc, tree)? {
-        Some(choice) => Ok(Task::Copy(stored, Copying::Tasks(choice, None))),
-        None => ordered(alloc, tree, stored),
-    }
+    let choice = member_choice(alloc, tree)?;
+    let chunks = member_box(alloc, tree, "chunks")?;
+    let selection = into_box(chunks);
+    Ok(Task::Copy(stored, Copying { choice, selection }))
 }
 
-/// The rechunking that a tree asks for in an order.
-fn ordered(alloc: Global, tree: &Value, stored: Stored) -> Result<Task, RunFault>
-    ensures { IsReadOr Memory task_of
-        (rechunking_with (view tree.now) (stored_of stored) None) result }
+/// The elements that go into the chunks of a box, or all without a box.
+fn into_box(chunks: Option<ArraySubset>) -> Selection
+    ensures { selection_of result ≡ into_box chunks }
 {
-    match member_order(tree)? {
-        Order::Target => {
-            let chunks = member_box(alloc, tree, "chunks")?;
-            Ok(Task::Copy(stored, Copying::Chunks(chunks)))
-        }
-        Order::Source => Ok(Task::Copy(stored, Copying::BySource)),
+    match chunks {
+        Some(chunks) => Selection::Chunks(chunks),
+        None => Selection::All,
     }
 }
 
@@ -275,23 +273,12 @@ fn region_to(
     let elements = read_box(alloc, subset, "subset")?;
     let at = member_numbers(alloc, tree, "at")?;
     let choice = member_choice(alloc, tree)?;
-    let region = RegionAsked {
+    let selection = Selection::Region(RegionAsked {
         shape,
         elements,
         at,
-    };
-    Ok(Task::Copy(target, region_with(choice, region)))
-}
-
-/// What is copied of a region: by tasks, if they are asked for.
-fn region_with(choice: Option<TaskChoice>, region: RegionAsked) -> Copying
-    ensures { copying_of result ≡ region_with (option_map choice_of choice)
-        (region_asked_of region) }
-{
-    match choice {
-        Some(choice) => Copying::Tasks(choice, Some(region)),
-        None => Copying::Region(region),
-    }
+    });
+    Ok(Task::Copy(target, Copying { choice, selection }))
 }
 
 /// How a target says that it is stored, which is taken out of it.

@@ -1,15 +1,14 @@
 //! The text of a line of a plan.
 ghost use Rattle.std.specs.Prelude.{◌≡◌, ◌++◌, ◌∷◌};
-ghost use Rattle.programs.specs.chunkplan.Common.{[], codes, option_map, IfOk, OnOk, print, begin_array, begin_object, boolean, end_array};
-ghost use Rattle.programs.specs.chunkplan.Common.{end_object, key, json_tokens, Source, Target};
+ghost use Rattle.programs.specs.chunkplan.Common.{[], codes, option_map, IfOk, OnOk, print, boolean, key, json_tokens};
 ghost use Rattle.json.specs.Token.{null, string};
 ghost use Rattle.programs.specs.chunkplan.Document.{ranges_asked_of};
 ghost use Rattle.programs.specs.chunkplan.Keys.{foreign_json};
 ghost use Rattle.programs.specs.chunkplan.Line.{box_json, change_line, change_word, count_json, held_json, held_shape_json, line_of, numbers_json};
-ghost use Rattle.programs.specs.chunkplan.Line.{chunk_json, overlap_json, part_json, place_name};
+ghost use Rattle.programs.specs.chunkplan.Line.{overlap_json, part_json};
 ghost use Rattle.programs.specs.chunkplan.seen.Added.{Adds};
-ghost use Rattle.programs.specs.chunkplan.seen.Pieces.{begin_of_line, begin_of_task, comma_before, end_of_line, end_of_task, item_text, middle_of_task};
-ghost use Rattle.programs.specs.chunkplan.seen.Pieces.{piece_text, ranges_tokens, text_as, whole_if_tokens, whole_tokens};
+ghost use Rattle.programs.specs.chunkplan.seen.Pieces.{begin_of_task, comma_before, end_of_task, item_text, middle_of_task, ranges_tokens, text_as};
+ghost use Rattle.programs.specs.chunkplan.seen.Pieces.{whole_if_tokens};
 ghost use Rattle.streams.specs.OneLine.{line_of as one_line_of};
 
 use crate::chunkplan::part_ranges::write_ranges;
@@ -18,27 +17,25 @@ use json::{Token, Writer};
 use std::alloc::{AllocError, Global};
 use streams::{one_line, unbroken};
 use zarrs_chunk_base::{ArraySubset, StoreKey};
-use zarrs_chunk_plan::{Change, ChunkChange, Held, Part, place_in_target};
+use zarrs_chunk_plan::{Change, ChunkChange, Held, Part};
 
 /// How many bytes a line is given room for at first.
 const LINE_LEN: usize = 192;
 
-/// Which chunks the lines of a rechunking are for.
+/// Of which array tasks take whole chunks.
 #[derive(Clone, Copy, Drop)]
 pub(crate) enum Order {
-    /// Those of the target: each line has all that its chunk gets.
+    /// Of the target: no chunk of it is in two tasks.
     Target,
-    /// Those of the source: each line has all that its chunk gives.
+    /// Of the source: no chunk of it is in two tasks.
     Source,
 }
 
 /// How a part is written.
 #[derive(Clone, Copy)]
-pub(crate) enum Form<'a> {
+pub(crate) enum Form {
     /// As a line of a read, of so many lines, with the byte ranges that are wanted.
     Line(Option<u64>, Option<RangesAsked>),
-    /// As a piece of the line of this part of a chunk.
-    Piece(Order, &'a Part),
     /// As what a chunk and the buffer of a task share, which the task reads or, if this is `true`, writes.
     Overlap(bool),
 }
@@ -51,13 +48,12 @@ pub(crate) fn part_text(
     alloc: Global,
     part: &Part,
     number: Option<u64>,
-    form: Form<'_>,
+    form: Form,
 ) -> Result<Vec<u8>, AllocError>
-    ensures { IfOk result (λ text. text.items ≡ text_as form.entry number part.now) }
+    ensures { IfOk result (λ text. text.items ≡ text_as form number part.now) }
 {
     match form {
         Form::Line(of, ranges) => part_line(alloc, part, number, of, &ranges),
-        Form::Piece(order, of) => piece_text(alloc, part, number, order, of),
         Form::Overlap(written) => overlap_text(alloc, part, number, written),
     }
 }
@@ -104,29 +100,6 @@ fn write_wanted(
     }
 }
 
-/// A piece of the line of a chunk, of which `of` is the part that the line is about, with a comma before it where it isn't the first.
-fn piece_text(
-    alloc: Global,
-    part: &Part,
-    number: Option<u64>,
-    order: Order,
-    of: &Part,
-) -> Result<Vec<u8>, AllocError>
-    ensures { IfOk result (λ text. text.items ≡ piece_text order of.now number part.now) }
-{
-    let place = place_in_target(alloc, of, part)?;
-    let mut json = Writer::new(begin_piece(alloc, number)?);
-    json.begin_object()?;
-    write_numbers(&mut json, "chunk", part.chunk.as_slice())?;
-    write_box(&mut json, "in_chunk", &part.in_chunk)?;
-    write_box(&mut json, place_name(order), &place)?;
-    write_key(&mut json, &part.key)?;
-    write_numbers(&mut json, "shape", part.shape.as_slice())?;
-    write_whole_of_piece(&mut json, order, part)?;
-    json.end_object()?;
-    unbroken(alloc, &json.into_inner())
-}
-
 /// What a chunk and the buffer of a task share, as an item of a list, with a comma before it where it isn't the first.
 fn overlap_text(
     alloc: Global,
@@ -137,7 +110,7 @@ fn overlap_text(
     ensures { IfOk result (λ text. text.items
         ≡ item_text (overlap_json written) number part.now) }
 {
-    let mut json = Writer::new(begin_piece(alloc, number)?);
+    let mut json = Writer::new(begin_item(alloc, number)?);
     json.begin_object()?;
     write_numbers(&mut json, "chunk", part.chunk.as_slice())?;
     write_box(&mut json, "in_buffer", &part.in_subset)?;
@@ -201,31 +174,14 @@ pub(crate) fn task_middle(
 pub(crate) fn task_end(alloc: Global) -> Result<Vec<u8>, AllocError>
     ensures { IfOk result (λ text. text.items ≡ end_of_task) }
 {
-    end_of_source(alloc)
+    let mut json = Writer::new(Vec::with_capacity(alloc, LINE_LEN)?);
+    json.end_array()?;
+    json.end_object()?;
+    ended(alloc, json)
 }
 
-/// What the box of the line's chunk is called in a piece of the line.
-fn place_name(order: Order) -> &'static str
-    ensures { result.now ≡ place_name order }
-{
-    match order {
-        Order::Target => "in_target",
-        Order::Source => "in_source",
-    }
-}
-
-/// Writes the member `whole` of a piece, which it has in the order of the source.
-fn write_whole_of_piece(json: &mut Writer, order: Order, part: &Part) -> Result<(), AllocError>
-    ensures { OnOk result (Adds json.old json.new (whole_tokens order part.now)) }
-{
-    match order {
-        Order::Target => Ok(()),
-        Order::Source => write_whole(json, part.whole),
-    }
-}
-
-/// What stands before a piece of a line: a comma, where it isn't the first.
-fn begin_piece(alloc: Global, number: Option<u64>) -> Result<Vec<u8>, AllocError>
+/// Returns a comma, or nothing before the first item of a list.
+fn begin_item(alloc: Global, number: Option<u64>) -> Result<Vec<u8>, AllocError>
     ensures { IfOk result (λ text. text.items ≡ comma_before number) }
 {
     let mut text = Vec::with_capacity(alloc, LINE_LEN)?;
@@ -233,105 +189,6 @@ fn begin_piece(alloc: Global, number: Option<u64>) -> Result<Vec<u8>, AllocError
         text.push(b',')?;
     }
     Ok(text)
-}
-
-/// The beginning of the line of a chunk, before its pieces.
-///
-/// # Errors
-/// Out of memory.
-pub(crate) fn line_begin(
-    alloc: Global,
-    order: Order,
-    chunk: &Part,
-    number: Option<u64>,
-    of: Option<u64>,
-) -> Result<Vec<u8>, AllocError>
-    ensures { IfOk result (λ text. text.items ≡ begin_of_line order number of chunk.now) }
-{
-    match order {
-        Order::Target => begin_of_target(alloc),
-        Order::Source => begin_of_source(alloc, chunk, number, of),
-    }
-}
-
-/// The beginning of the line of a chunk of the target.
-fn begin_of_target(alloc: Global) -> Result<Vec<u8>, AllocError>
-    ensures { IfOk result (λ text. text.items
-        ≡ print (begin_object ∷ key (codes "from") ∷ begin_array ∷ [])) }
-{
-    let mut json = Writer::new(Vec::with_capacity(alloc, LINE_LEN)?);
-    json.begin_object()?;
-    json.key("from")?;
-    json.begin_array()?;
-    Ok(json.into_inner())
-}
-
-/// The beginning of the line of a chunk of the source.
-fn begin_of_source(
-    alloc: Global,
-    from: &Part,
-    number: Option<u64>,
-    of: Option<u64>,
-) -> Result<Vec<u8>, AllocError>
-    ensures { IfOk result (λ text. text.items ≡ begin_of_line Source number of from.now) }
-{
-    let mut json = Writer::new(Vec::with_capacity(alloc, LINE_LEN)?);
-    json.begin_object()?;
-    write_chunk(&mut json, "from", from)?;
-    write_count(&mut json, "number", number)?;
-    write_count(&mut json, "of", of)?;
-    json.key("to")?;
-    json.begin_array()?;
-    unbroken(alloc, &json.into_inner())
-}
-
-/// The end of the line of a chunk, behind its pieces.
-///
-/// # Errors
-/// Out of memory.
-pub(crate) fn line_end(
-    alloc: Global,
-    order: Order,
-    chunk: &Part,
-    number: Option<u64>,
-    of: Option<u64>,
-) -> Result<Vec<u8>, AllocError>
-    ensures { IfOk result (λ text. text.items ≡ end_of_line order number of chunk.now) }
-{
-    match order {
-        Order::Target => end_of_target(alloc, chunk, number, of),
-        Order::Source => end_of_source(alloc),
-    }
-}
-
-/// The end of the line of a chunk of the source.
-fn end_of_source(alloc: Global) -> Result<Vec<u8>, AllocError>
-    ensures { IfOk result (λ text. text.items
-        ≡ one_line_of (print (end_array ∷ end_object ∷ []))) }
-{
-    let mut json = Writer::new(Vec::with_capacity(alloc, LINE_LEN)?);
-    json.end_array()?;
-    json.end_object()?;
-    ended(alloc, json)
-}
-
-/// The end of the line of a chunk of the target.
-fn end_of_target(
-    alloc: Global,
-    to: &Part,
-    number: Option<u64>,
-    of: Option<u64>,
-) -> Result<Vec<u8>, AllocError>
-    ensures { IfOk result (λ text. text.items ≡ end_of_line Target number of to.now) }
-{
-    let mut json = Writer::new(Vec::with_capacity(alloc, LINE_LEN)?);
-    json.end_array()?;
-    write_count(&mut json, "number", number)?;
-    write_count(&mut json, "of", of)?;
-    write_chunk(&mut json, "to", to)?;
-    write_whole(&mut json, to.whole)?;
-    json.end_object()?;
-    ended(alloc, json)
 }
 
 /// The line of the change of a chunk, by its number in its walk.
@@ -433,20 +290,6 @@ fn ended(alloc: Global, json: Writer) -> Result<Vec<u8>, AllocError>
     ensures { IfOk result (λ line. line.items ≡ one_line_of (json.before ++ print json.tokens)) }
 {
     one_line(alloc, &json.into_inner())
-}
-
-/// Writes a member of this name: the chunk that a line is for.
-fn write_chunk(json: &mut Writer, name: &str, part: &Part) -> Result<(), AllocError>
-    ensures { OnOk result (Adds json.old json.new (key name.now
-        ∷ json_tokens (chunk_json part.now))) }
-{
-    json.key(name)?;
-    json.begin_object()?;
-    write_numbers(json, "chunk", part.chunk.as_slice())?;
-    write_key(json, &part.key)?;
-    write_numbers(json, "shape", part.shape.as_slice())?;
-    json.end_object()?;
-    Ok(())
 }
 
 /// Writes a member of this name: how many there are, or `null` where no number says it.

@@ -22,7 +22,7 @@ pub enum MemberRule {
 }
 
 /// All rules, in the order in which a broken one is told.
-const RULES: [MemberRule; 45] = [
+const RULES: [MemberRule; 37] = [
     Excludes("resize", "target"),
     Excludes("resize", "subset"),
     Excludes("resize", "clip"),
@@ -48,21 +48,13 @@ const RULES: [MemberRule; 45] = [
     Needs("keys", "target"),
     Excludes("keys", "counts"),
     Needs("order", "target"),
-    Excludes("order", "subset"),
-    Excludes("order", "chunks"),
-    Excludes("order", "counts"),
-    Excludes("order", "keys"),
     Excludes("item_size", "target"),
     Excludes("item_size", "counts"),
     Needs("memory_order", "item_size"),
     Needs("max_ranges", "item_size"),
     Needs("task_chunks", "target"),
-    Excludes("task_chunks", "chunks"),
-    Excludes("task_chunks", "keys"),
     Excludes("task_chunks", "max_elements"),
     Needs("max_elements", "target"),
-    Excludes("max_elements", "chunks"),
-    Excludes("max_elements", "keys"),
     Excludes("max_elements", "order"),
     Needs("read_elements", "max_elements"),
     Needs("stage", "max_elements"),

@@ -1,24 +1,31 @@
 //! What a plan still has to write where a store has some of it.
-ghost use Rattle.std.specs.Prelude.{◌≡◌};
-ghost use Rattle.programs.specs.chunkplan.Common.{[], ℕ, List, Some, IsBox, all_targets, region_of, target_of, targets_to_come, has_failed, watched};
-ghost use Rattle.programs.specs.chunkplan.Common.{left, written};
-ghost use Rattle.programs.specs.chunkplan.Document.{AsksForLinesOfCopy, HasGroups, copying_of, document_of};
-ghost use Rattle.programs.specs.chunkplan.Planned.{copy_beside, missing_text, target_shape, text_beside};
-ghost use Rattle.programs.specs.chunkplan.seen.Steps.{ReadLeaves};
+ghost use Rattle.std.specs.Prelude.{◌≡◌, ◌⊎◌, ◌<◌, ◌≤◌, ◌^◌};
+ghost use Rattle.programs.specs.chunkplan.Common.{[], ℕ, Box, List, MatchResult, Memory, Some, TooManyForKeys, has_failed, left, length, moved, watched, written};
+ghost use Rattle.zarrs_chunks.specs.Walks.{chunks_in};
+ghost use Rattle.zarrs_chunk_parts.specs.Plan.{Covers};
+ghost use Rattle.zarrs_chunk_plan.specs.seen.StoredChunks.{Knows};
+ghost use Rattle.programs.specs.chunkplan.Document.{AsksForLinesOfCopy, copying_of, document_of};
+ghost use Rattle.programs.specs.chunkplan.Planned.{copy_beside, missing_text, text_beside};
+ghost use Rattle.programs.specs.chunkplan.Stages.{HasStageTasks};
+ghost use Rattle.programs.specs.chunkplan.seen.Opened.{array_in, dimensions_of, key_of};
 ghost use Rattle.programs.specs.chunkplan.seen.Reads.{ReadFailsAfter};
-ghost use Rattle.programs.specs.chunkplan.seen.Opened.{CanGiveCopies, OfGroups, array_in, sizes_of};
+ghost use Rattle.programs.specs.chunkplan.seen.Routes.{stage_of};
+ghost use Rattle.programs.specs.chunkplan.seen.Steps.{ReadLeaves};
 
 use crate::chunkplan::RunFault;
 use crate::chunkplan::copying::send_text;
-use crate::chunkplan::document::{Copying, Document, RegionAsked, Task, Wanted};
+use crate::chunkplan::document::{Copying, Document, Task, Wanted};
 use crate::chunkplan::keys::note_keys;
-use crate::chunkplan::line::Order;
-use crate::chunkplan::opened::{OpenedArray, OpenedCopies};
-use crate::chunkplan::plan::{open_target, or_all_chunks, or_zeros, target_shape, write_share};
+use crate::chunkplan::opened::OpenedArray;
+use crate::chunkplan::plan::{open_target, target_shape};
+use crate::chunkplan::route::Stage;
+use crate::chunkplan::stages::{asked_stage, find_route, stages_of};
+use crate::chunkplan::task_lines::{tasks_of, write_share};
 use std::alloc::Global;
 use std::io::{Read, Write};
 use streams::{Lines, Sink, Watched};
-use zarrs_chunk_plan::{Share, copies, copies_of_region};
+use zarrs_chunk_parts::expect_answer;
+use zarrs_chunk_plan::{Share, StoredChunks, moved_box, parts};
 
 /// Reads the keys behind a document, and sends the lines that it asks for of what isn't stored under any of them; and behind these the line of each
 /// key that is none of the target's.
@@ -52,7 +59,7 @@ pub(crate) fn write_beside_keys<R: Read, W: Write>(
     drop(stored);
     match (task, wanted) {
         (Task::Copy(target, copying), Wanted::Lines(share)) => {
-            let target = open_target(alloc, target, target_shape(&copying, &shape))?;
+            let target = open_target(alloc, target, target_shape(&copying.selection, &shape))?;
             write_copy(alloc, &array, &target, copying, &share, lines, reader, sink)
         }
         // Never: keys stand behind a copy whose lines are asked for.
@@ -71,8 +78,6 @@ fn write_copy<R: Read, W: Write>(
     reader: &mut Watched<R>,
     sink: &mut Sink<W>,
 ) -> Result<(), RunFault>
-    requires sizes { sizes_of target.now ≡ target_shape (copying_of copying) (sizes_of array.now) }
-    requires groups { HasGroups (copying_of copying) }
     ensures leaves { (bytes : List ℕ)
         → left lines.old (R.remaining (watched reader.old)) ≡ Some bytes
         → ReadLeaves (copy_beside (copying_of copying) share.now bytes (array_in array.now)
@@ -82,53 +87,75 @@ fn write_copy<R: Read, W: Write>(
     ensures keys_last { ReadFailsAfter (copy_beside (copying_of copying) share.now []
         (array_in array.now) (array_in target.now)) result }
 {
-    match copying {
-        Copying::Chunks(chunks) => {
-            let chunks = or_all_chunks(alloc, chunks, &target.grid)?;
-            let walk = copies(alloc, array, target, &chunks)?;
-            write_missing(alloc, walk, target, share, lines, reader, sink)
-        }
-        Copying::Region(RegionAsked { elements, at, .. }) => {
-            let at = or_zeros(alloc, at, elements.dimensionality())?;
-            elements.is_a_box();
-            let walk = copies_of_region(alloc, array, target, &elements, &at)?;
-            write_missing(alloc, walk, target, share, lines, reader, sink)
-        }
-        // Never: it is one of these two.
-        _ => unreachable!(),
-    }
+    let asked = copying.choice.stage();
+    let found = find_route(alloc, array, target, copying)?;
+    let stages = stages_of(alloc, array, target, &found)?;
+    let stage = asked_stage(&stages, asked)?;
+    write_missing(alloc, stage, share, lines, reader, sink)
 }
 
-/// Reads the keys in the lines that a reader has left, and sends the lines of a share of all that a walk gives which is at its beginning, without
-/// those of chunks that are stored under one of the keys, and would be written whole.
+/// Reads the keys in the lines that a reader has left, and sends the lines of a share of a stage's tasks. A task is left out if all its chunks are stored under
+/// one of the keys, and would be written whole.
 fn write_missing<R: Read, W: Write>(
     alloc: Global,
-    walk: OpenedCopies<'_>,
-    target: &OpenedArray,
+    stage: &Stage<'_>,
     share: &Share,
     lines: &mut Lines,
     reader: &mut Watched<R>,
     sink: &mut Sink<W>,
 ) -> Result<(), RunFault>
-    requires target { target_of walk ≡ target.now }
-    requires can { CanGiveCopies walk }
-    requires is_box { IsBox walk.targets.array_subset }
-    requires region { IsBox (region_of walk) }
-    requires all { all_targets walk ≡ targets_to_come walk }
     ensures leaves { (bytes : List ℕ)
         → left lines.old (R.remaining (watched reader.old)) ≡ Some bytes
-        → ReadLeaves (OfGroups walk.entry (missing_text share.now bytes (array_in target.now)))
-        result
+        → ReadLeaves (missing_text share.now bytes (stage_of stage.now)) result
         (has_failed reader.old) (has_failed reader.new) (R.remaining (watched reader.new))
         (written W.contents sink.old) (written W.contents sink.new) }
-    ensures keys_last { ReadFailsAfter
-        (OfGroups walk.entry (missing_text share.now [] (array_in target.now))) result }
+    ensures keys_last { ReadFailsAfter (missing_text share.now [] (stage_of stage.now)) result }
 {
-    let Some(mut stored) = walk.none_stored(alloc)? else {
-        return Err(RunFault::TooManyForKeys);
-    };
+    let walk = tasks_of(alloc, stage)?;
+    let mut stored = none_stored(alloc, stage)?;
     let mut foreign = Vec::new(alloc);
-    note_keys(alloc, target, &mut stored, &mut foreign, lines, reader)?;
-    write_share(alloc, walk, Order::Target, share, Some(&stored), sink)?;
+    note_keys(
+        alloc,
+        stage.target,
+        &mut stored,
+        &mut foreign,
+        lines,
+        reader,
+    )?;
+    write_share(
+        alloc,
+        walk,
+        stage.source,
+        stage.target,
+        share,
+        Some(&stored),
+        sink,
+    )?;
     send_text(Ok(foreign), sink)
+}
+
+/// Returns marks for the chunks that a stage writes: no chunk is known to be stored.
+///
+/// # Errors
+/// The stage has no tasks; it writes too many chunks; or out of memory.
+fn none_stored(alloc: Global, stage: &Stage<'_>) -> Result<StoredChunks, RunFault>
+    requires has { HasStageTasks (stage_of stage.now) }
+    ensures { MatchResult result
+        (λ stored. (cover : Box) × Covers (dimensions_of stage.now.target.now)
+        (moved stage.now.at.items stage.now.region) cover × (length (chunks_in cover) < 2 ^ 29)
+        × Knows (dimensions_of stage.now.target.now) (key_of stage.now.target.now)
+        (chunks_in cover) [] stored)
+        (λ fault. (fault ≡ Memory) ⊎ ((fault ≡ TooManyForKeys)
+        × (cover : Box) × Covers (dimensions_of stage.now.target.now)
+        (moved stage.now.at.items stage.now.region) cover
+        × (2 ^ 29 ≤ length (chunks_in cover)))) }
+{
+    let (source, target) = (stage.source, stage.target);
+    let moved = moved_box(alloc, &source.grid, &target.grid, &stage.region, &stage.at)?;
+    moved.is_a_box();
+    let into = expect_answer(parts(alloc, &target.grid, &target.encoding, &moved))?;
+    match into.none_stored(alloc)? {
+        Some(stored) => Ok(stored),
+        None => Err(RunFault::TooManyForKeys),
+    }
 }

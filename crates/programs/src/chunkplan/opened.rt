@@ -1,6 +1,6 @@
 //! Arrays in a grid and under an encoding of the library's kinds, as a document stores them.
 use zarrs_chunk_keys::ChunkKeyEncoding;
-use zarrs_chunk_plan::{ChunkCopies, Copies, Parts, StoredArray};
+use zarrs_chunk_plan::{Parts, StoredArray};
 use zarrs_chunk_tasks::Tasks;
 use zarrs_chunks::ChunkGrid;
 
@@ -9,18 +9,6 @@ pub(crate) type OpenedArray = StoredArray<ChunkGrid, ChunkKeyEncoding>;
 
 /// A walk over the parts of a read.
 pub(crate) type OpenedParts<'a> = Parts<'a, ChunkGrid, ChunkKeyEncoding>;
-
-/// A walk over the copies into the chunks of another array.
-pub(crate) type OpenedCopies<'a> = Copies<
-    'a,
-    ChunkGrid,
-    ChunkKeyEncoding,
-    ChunkGrid,
-    ChunkKeyEncoding,
->;
-
-/// What one of these chunks takes.
-pub(crate) type OpenedGroup<'a> = ChunkCopies<'a, ChunkGrid, ChunkKeyEncoding>;
 
 /// A walk over the tasks of a copy.
 pub(crate) type OpenedTasks<'a> = Tasks<'a, ChunkGrid>;

@@ -1,36 +1,30 @@
 //! The plan that a document asks for.
 ghost use Rattle.std.specs.Prelude.{◌≡◌, ◌⊎◌};
-ghost use Rattle.programs.specs.chunkplan.Common.{IfErr, IfOk, List, None, length, option_map, replicate, unwrap_or, IsBox, AllFit, grid_in, Group};
-ghost use Rattle.programs.specs.chunkplan.Common.{all_chunks_box, array_box, AreResized, all_targets, region_of, targets_to_come, IsReadOr};
+ghost use Rattle.programs.specs.chunkplan.Common.{IfErr, IfOk, None, length, option_map, unwrap_or, AllFit, grid_in, array_box, AreResized, IsReadOr};
 ghost use Rattle.programs.specs.chunkplan.Common.{stored_of, Memory, written};
 ghost use Rattle.programs.specs.chunkplan.CountsLine.{IsCountsLine};
-ghost use Rattle.programs.specs.chunkplan.Document.{choice_of, region_asked_of, copying_of, counts_wanted, document_of, lines_wanted, ranges_asked_of, wanted_of};
-ghost use Rattle.programs.specs.chunkplan.Planned.{IsAsked, IsReadFault, IsResizeText, asked_text, read_text, rechunking_text, region_text};
-ghost use Rattle.programs.specs.chunkplan.Planned.{copy_text, elements_of, index_of, resized_in, target_in, target_shape, tasks_text, text_of};
+ghost use Rattle.programs.specs.chunkplan.Document.{copying_of, counts_wanted, document_of, lines_wanted, ranges_asked_of, selection_of, wanted_of};
+ghost use Rattle.programs.specs.chunkplan.Planned.{IsAsked, IsReadFault, IsResizeText, asked_text, copy_text, read_text, resized_in, target_in, target_shape};
+ghost use Rattle.programs.specs.chunkplan.Planned.{text_of};
 ghost use Rattle.programs.specs.chunkplan.RunFault.{of_target as fault_of_target};
-ghost use Rattle.programs.specs.chunkplan.seen.Missing.{share_unless_stored};
-ghost use Rattle.programs.specs.chunkplan.seen.Opened.{CanGiveCopies, CopiesToCome, array_in, dimensions_in, dimensions_of, sizes_of};
+ghost use Rattle.programs.specs.chunkplan.seen.Opened.{array_in, dimensions_in, dimensions_of, sizes_of};
 ghost use Rattle.programs.specs.chunkplan.seen.Steps.{Leaves, StepLeaves};
 
 use crate::chunkplan::RunFault;
-use crate::chunkplan::copying::{send_text, write_changes, write_copies, write_parts};
+use crate::chunkplan::copying::{send_text, write_changes, write_parts};
 use crate::chunkplan::counting::{counts_line, stages_line};
-use crate::chunkplan::document::{Copying, Document, RegionAsked, Task, Wanted};
-use crate::chunkplan::line::{Form, Order};
-use crate::chunkplan::opened::{OpenedArray, OpenedCopies};
+use crate::chunkplan::document::{Copying, Document, Selection, Task, Wanted};
+use crate::chunkplan::line::Form;
+use crate::chunkplan::opened::OpenedArray;
 use crate::chunkplan::ranges::RangesAsked;
 use crate::chunkplan::stages::{asked_stage, find_route, stages_of};
-use crate::chunkplan::task_choice::TaskChoice;
 use crate::chunkplan::task_lines::write_stage;
 use documents::{CreateFault, Stored};
 use std::alloc::{AllocError, Global};
 use std::io::Write;
 use streams::Sink;
 use zarrs_chunk_base::{ArraySubset, IncompatibleDimensionalityError, Refusal};
-use zarrs_chunk_plan::{
-    Counts, Share, StoredChunks, all_chunks, changes, copies, copies_of_region, counts_of_read,
-    counts_of_rechunking, counts_of_region, parts, whole_array,
-};
+use zarrs_chunk_plan::{Counts, Share, changes, counts_of_read, parts, whole_array};
 use zarrs_chunks::{ChunkGrid, ChunkGridTraits};
 
 /// Sends the plan that a document asks for, line by line.
@@ -67,7 +61,7 @@ pub(crate) fn write_plan<W: Write>(
         }
         Task::Copy(target, copying) => {
             drop(stored);
-            let target = open_target(alloc, target, target_shape(&copying, &shape))?;
+            let target = open_target(alloc, target, target_shape(&copying.selection, &shape))?;
             write_copy(alloc, &array, &target, copying, &wanted, sink)
         }
         Task::Resize { shape, keep } => {
@@ -78,11 +72,11 @@ pub(crate) fn write_plan<W: Write>(
 }
 
 /// The shape of the target's array: the array's own, but for a region.
-pub(crate) fn target_shape<'a>(copying: &'a Copying, own: &'a [u64]) -> &'a [u64]
-    ensures { result.now ≡ target_shape (copying_of copying.now) own.now }
+pub(crate) fn target_shape<'a>(selection: &'a Selection, own: &'a [u64]) -> &'a [u64]
+    ensures { result.now ≡ target_shape (selection_of selection.now) own.now }
 {
-    match copying {
-        Copying::Region(region) | Copying::Tasks(_, Some(region)) => region.shape.as_slice(),
+    match selection {
+        Selection::Region(region) => region.shape.as_slice(),
         _ => own,
     }
 }
@@ -124,25 +118,6 @@ fn resized_grid(alloc: Global, stored: Stored, shape: &[u64]) -> Result<ChunkGri
     }
 }
 
-/// The numbers, or so many zeros.
-pub(crate) fn or_zeros(
-    alloc: Global,
-    numbers: Option<Vec<u64>>,
-    len: usize,
-) -> Result<Vec<u64>, AllocError>
-    ensures { IfOk result (λ v. v.items
-        ≡ unwrap_or (option_map (λ ns. ns.items) numbers) (replicate len 0)) }
-{
-    match numbers {
-        Some(numbers) => Ok(numbers),
-        None => {
-            let mut zeros = Vec::with_capacity(alloc, len)?;
-            zeros.resize(len, 0)?;
-            Ok(zeros)
-        }
-    }
-}
-
 /// The box, or that of all elements of the array.
 fn or_whole_array(
     alloc: Global,
@@ -154,20 +129,6 @@ fn or_whole_array(
     match subset {
         Some(subset) => Ok(subset),
         None => whole_array(alloc, grid),
-    }
-}
-
-/// The box, or that of all chunks of the grid.
-pub(crate) fn or_all_chunks(
-    alloc: Global,
-    chunks: Option<ArraySubset>,
-    grid: &ChunkGrid,
-) -> Result<ArraySubset, AllocError>
-    ensures { IfOk result (λ b. b ≡ unwrap_or chunks (all_chunks_box (dimensions_in grid.now))) }
-{
-    match chunks {
-        Some(chunks) => Ok(chunks),
-        None => all_chunks(alloc, grid),
     }
 }
 
@@ -294,7 +255,7 @@ fn write_counts<W: Write>(
     send_text(counts_line(alloc, counts), sink)
 }
 
-/// Sends what is wanted of the plan of a copy.
+/// Sends the lines or the counts of a copy.
 fn write_copy<W: Write>(
     alloc: Global,
     source: &OpenedArray,
@@ -303,169 +264,21 @@ fn write_copy<W: Write>(
     wanted: &Wanted,
     sink: &mut Sink<W>,
 ) -> Result<(), RunFault>
-    requires sizes { sizes_of target.now ≡ target_shape (copying_of copying) (sizes_of source.now) }
     ensures { Leaves (copy_text (copying_of copying) (wanted_of wanted.now) (array_in source.now)
         (array_in target.now)) result
         (written W.contents sink.old) (written W.contents sink.new) }
 {
-    match copying {
-        Copying::Chunks(chunks) => {
-            let chunks = or_all_chunks(alloc, chunks, &target.grid)?;
-            let order = Order::Target;
-            write_rechunking(alloc, source, target, &chunks, order, wanted, sink)
-        }
-        Copying::BySource => {
-            let chunks = all_chunks(alloc, &source.grid)?;
-            let order = Order::Source;
-            write_rechunking(alloc, target, source, &chunks, order, wanted, sink)
-        }
-        Copying::Region(RegionAsked { elements, at, .. }) => {
-            let at = or_zeros(alloc, at, elements.dimensionality())?;
-            write_region(alloc, source, target, &elements, &at, wanted, sink)
-        }
-        Copying::Tasks(choice, region) => {
-            let elements = elements_of(alloc, &region, &source.grid)?;
-            let at = or_zeros(alloc, index_of(region), elements.dimensionality())?;
-            write_tasks(alloc, source, target, elements, at, choice, wanted, sink)
-        }
-    }
-}
-
-/// The elements that tasks copy: the region, or the whole array.
-///
-/// # Errors
-/// Out of memory.
-fn elements_of(
-    alloc: Global,
-    region: &Option<RegionAsked>,
-    grid: &ChunkGrid,
-) -> Result<ArraySubset, AllocError>
-    ensures { IfOk result (λ elements. elements
-        ≡ elements_of (dimensions_in grid.now) (option_map region_asked_of region.now)) }
-{
-    match region {
-        Some(region) => Ok(region.elements.clone()?),
-        None => whole_array(alloc, grid),
-    }
-}
-
-/// The index that is given for them.
-fn index_of(region: Option<RegionAsked>) -> Option<Vec<u64>>
-    ensures { option_map (λ v. v.items) result ≡ index_of (option_map region_asked_of region) }
-{
-    match region {
-        Some(RegionAsked { at, .. }) => at,
-        None => None,
-    }
-}
-
-/// Sends the lines or the counts of the copy of a region by tasks.
-fn write_tasks<W: Write>(
-    alloc: Global,
-    source: &OpenedArray,
-    target: &OpenedArray,
-    region: ArraySubset,
-    at: Vec<u64>,
-    choice: TaskChoice,
-    wanted: &Wanted,
-    sink: &mut Sink<W>,
-) -> Result<(), RunFault>
-    ensures { Leaves (tasks_text (choice_of choice) (wanted_of wanted.now) (array_in source.now)
-        (array_in target.now) region at.items) result
-        (written W.contents sink.old) (written W.contents sink.new) }
-{
-    let asked = choice.stage();
-    let route = find_route(alloc, source, target, &region, &at, choice)?;
-    let stages = stages_of(alloc, source, target, region, at, &route)?;
+    let asked = copying.choice.stage();
+    let found = find_route(alloc, source, target, copying)?;
+    let stages = stages_of(alloc, source, target, &found)?;
     match wanted {
         Wanted::Lines(share) => {
             let stage = asked_stage(&stages, asked)?;
             write_stage(alloc, stage, share, sink)
         }
         Wanted::Counts => {
-            let line = stages_line(alloc, route.is_exact, &stages)?;
+            let line = stages_line(alloc, found.route.is_exact, &stages)?;
             send_text(Ok(line), sink)
-        }
-    }
-}
-
-/// Sends what is wanted of the plan of a rechunking into the chunks of a box. In the order of the source, what is given as the source is the array as
-/// it is to be stored.
-pub(crate) fn write_rechunking<W: Write>(
-    alloc: Global,
-    source: &OpenedArray,
-    target: &OpenedArray,
-    chunks: &ArraySubset,
-    order: Order,
-    wanted: &Wanted,
-    sink: &mut Sink<W>,
-) -> Result<(), RunFault>
-    requires one_array { sizes_of source.now ≡ sizes_of target.now }
-    ensures { Leaves (rechunking_text order (wanted_of wanted.now) (array_in source.now) chunks.now
-        (array_in target.now)) result
-        (written W.contents sink.old) (written W.contents sink.new) }
-{
-    match wanted {
-        Wanted::Lines(share) => {
-            let walk = copies(alloc, source, target, chunks)?;
-            write_share(alloc, walk, order, share, None, sink)
-        }
-        Wanted::Counts => {
-            let counts = counts_of_rechunking(alloc, source, target, chunks)?;
-            write_counts(alloc, &counts, sink)
-        }
-    }
-}
-
-/// Sends the lines of a share of all that a walk gives which is at its beginning, without those of chunks that are known to be stored, and would be
-/// written whole.
-pub(crate) fn write_share<W: Write>(
-    alloc: Global,
-    mut walk: OpenedCopies<'_>,
-    order: Order,
-    share: &Share,
-    stored: Option<&StoredChunks>,
-    sink: &mut Sink<W>,
-) -> Result<(), RunFault>
-    requires can { CanGiveCopies walk }
-    requires is_box { IsBox walk.targets.array_subset }
-    requires region { IsBox (region_of walk) }
-    requires all { all_targets walk ≡ targets_to_come walk }
-    ensures { StepLeaves
-        (λ text. (groups : List Group)
-        × CopiesToCome walk.entry groups
-        × (text ≡ share_unless_stored order (option_map (λ s. s.now) stored.entry) share.now
-        groups))
-        (λ _. ⊥) result
-        (written W.contents sink.old) (written W.contents sink.new) }
-{
-    let first = walk.share(share)?;
-    write_copies(alloc, walk, order, first, stored, sink)
-}
-
-/// Sends what is wanted of the plan of the copy of a region.
-fn write_region<W: Write>(
-    alloc: Global,
-    source: &OpenedArray,
-    target: &OpenedArray,
-    region: &ArraySubset,
-    at: &[u64],
-    wanted: &Wanted,
-    sink: &mut Sink<W>,
-) -> Result<(), RunFault>
-    ensures { Leaves (region_text (wanted_of wanted.now) (array_in source.now) region.now at.now
-        (array_in target.now)) result
-        (written W.contents sink.old) (written W.contents sink.new) }
-{
-    region.is_a_box();
-    match wanted {
-        Wanted::Lines(share) => {
-            let walk = copies_of_region(alloc, source, target, region, at)?;
-            write_share(alloc, walk, Order::Target, share, None, sink)
-        }
-        Wanted::Counts => {
-            let counts = counts_of_region(alloc, source, target, region, at)?;
-            write_counts(alloc, &counts, sink)
         }
     }
 }

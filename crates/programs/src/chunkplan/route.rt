@@ -27,6 +27,16 @@ pub(crate) struct Route {
     ghost lengths: { length each.items ≡ suc (length between.items) },
 }
 
+/// What a copy is of, and by which arrays.
+#[derive(Drop)]
+pub(crate) struct FoundRoute {
+    pub(crate) route: Route,
+    /// The elements that are copied, as a box of the source's array.
+    pub(crate) region: ArraySubset,
+    /// The index in the target's array at which they begin.
+    pub(crate) at: Vec<u64>,
+}
+
 /// One stage of a copy: a region of the source goes to the target, from an index on.
 #[derive(Drop)]
 pub(crate) struct Stage<'a> {

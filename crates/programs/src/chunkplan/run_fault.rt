@@ -1,6 +1,6 @@
 //! Why a run of the program stops.
 ghost use Rattle.std.specs.Prelude.{◌≡◌};
-ghost use Rattle.programs.specs.chunkplan.Common.{Copies, Memory};
+ghost use Rattle.programs.specs.chunkplan.Common.{Memory};
 ghost use Rattle.programs.specs.chunkplan.RunFault.{of_create, of_document, of_refusal, of_region, of_stream, of_tasks};
 
 use crate::chunkplan::known_members::UnknownMember;
@@ -12,7 +12,7 @@ use thiserror::Error;
 use zarrs_chunk_base::{
     ArraySubsetError, IncompatibleDimensionalityError, MetadataError, PluginCreateError, Refusal,
 };
-use zarrs_chunk_plan::{CopiesError, RegionError};
+use zarrs_chunk_plan::RegionError;
 use zarrs_chunk_tasks::TasksError;
 
 /// Why a run stops. Nothing has been written, except on `Write`, and on `Memory`, where a beginning of the plan may have been.
@@ -91,8 +91,8 @@ pub enum RunFault {
     #[error("field `at`: the box ends past the target's array: `at`, which is 0 where it is left out, plus the box's shape is to be at most that array's shape")]
     PastTarget,
     /// The box of the target's chunks has another number of dimensions than the target.
-    #[error(transparent)]
-    Copies(CopiesError),
+    #[error("field `chunks`: {0}")]
+    ChunksDimensionality(IncompatibleDimensionalityError),
     /// There are more or fewer numbers of chunks a task than dimensions.
     #[error("field `task_chunks`: {0}")]
     TaskChunks(IncompatibleDimensionalityError),
@@ -111,8 +111,8 @@ pub enum RunFault {
     /// The copy has fewer stages.
     #[error("field `stage`: the copy has fewer stages; ask for `counts`, which lists them")]
     NoSuchStage,
-    /// The plan has more lines than there are bits for, one a line.
-    #[error("field `keys`: the plan has more than 536870911 lines: plan the chunks of a smaller box with `chunks`, or a smaller region")]
+    /// The stage writes more chunks than there are bits for, one a chunk.
+    #[error("field `keys`: more than 536870911 chunks are written: plan the chunks of a smaller box with `chunks`, or a smaller region")]
     TooManyForKeys,
     /// The line with this number isn't UTF-8. The document is line 1.
     #[error("field `keys`: line {0} is not UTF-8")]
@@ -205,16 +205,5 @@ fn of_region(error: RegionError) -> RunFault
         RegionError::At(error) => RunFault::AtDimensionality(error),
         RegionError::PastSource => RunFault::PastArray,
         RegionError::PastTarget => RunFault::PastTarget,
-    }
-}
-
-impl From<Refusal<CopiesError>> for RunFault {
-    ghost from_gives = { λ refusal fault. fault ≡ of_refusal Copies refusal };
-
-    fn from(refusal: Refusal<CopiesError>) -> RunFault {
-        match refusal {
-            Refusal::Refused(error) => RunFault::Copies(error),
-            Refusal::Memory(_) => RunFault::Memory,
-        }
     }
 }

@@ -1,32 +1,122 @@
 //! The stages of a copy by tasks.
 ghost use Rattle.std.specs.Prelude.{◌≡◌, ◌⊎◌, ◌∷◌};
-ghost use Rattle.programs.specs.chunkplan.Common.{ℕ, Box, IfOk, List, None, [], map, non_zero_u64_get, option_map, MatchResult, Ok, Err, Memory};
+ghost use Rattle.programs.specs.chunkplan.Common.{ℕ, Box, IfOk, List, None, [], map, non_zero_u64_get, option_map, replicate, unwrap_or, MatchResult, Ok, Err};
+ghost use Rattle.programs.specs.chunkplan.Common.{Memory};
 ghost use Rattle.std.specs.List.{AllZip};
-ghost use Rattle.programs.specs.chunkplan.Document.{cheapest, choice_of};
-ghost use Rattle.programs.specs.chunkplan.Planned.{Array};
+ghost use Rattle.programs.specs.chunkplan.Document.{cheapest, choice_of, copying_of, selection_of};
+ghost use Rattle.programs.specs.chunkplan.Planned.{Array, begins_at, copy_stages, elements_in};
 ghost use Rattle.programs.specs.chunkplan.Stages.{IsIntermediate, asked_in, staged, stages_in};
-ghost use Rattle.programs.specs.chunkplan.seen.Opened.{array_in};
-ghost use Rattle.programs.specs.chunkplan.seen.Routes.{intermediate_of, stage_of, stages_by};
+ghost use Rattle.programs.specs.chunkplan.seen.Opened.{array_in, dimensions_in};
+ghost use Rattle.programs.specs.chunkplan.seen.Routes.{intermediate_of, stage_of, stages_by, stages_found};
 
 use crate::chunkplan::RunFault;
+use crate::chunkplan::document::{Copying, RegionAsked, Selection};
 use crate::chunkplan::few_chunks::can_choose;
 use crate::chunkplan::line::Order;
 use crate::chunkplan::opened::OpenedArray;
-use crate::chunkplan::route::{Intermediate, Route, Stage};
+use crate::chunkplan::route::{FoundRoute, Intermediate, Route, Stage};
 use crate::chunkplan::task_choice::TaskChoice;
 use std::alloc::{AllocError, Global};
 use std::num::NonZeroU64;
 use zarrs_chunk_base::{ArrayShape, ArraySubset, ChunkShape, Refusal};
 use zarrs_chunk_keys::{ChunkKeyEncoding, DefaultChunkKeyEncoding};
-use zarrs_chunk_plan::{moved_box, whole_array};
+use zarrs_chunk_plan::{elements_of_chunks, moved_box, whole_array};
 use zarrs_chunk_tasks::{CheapestTasks, cheapest_stages};
-use zarrs_chunks::{ChunkGrid, RegularChunkGrid};
+use zarrs_chunks::{ChunkGrid, ChunkGridTraits, RegularChunkGrid};
+
+/// Finds the route of a copy.
+///
+/// # Errors
+/// The box of chunks has another number of dimensions than the target. No tasks fit, or there are too many chunks to choose tasks. The region doesn't fit the
+/// two arrays. Or out of memory.
+pub(crate) fn find_route(
+    alloc: Global,
+    source: &OpenedArray,
+    target: &OpenedArray,
+    copying: Copying,
+) -> Result<FoundRoute, RunFault>
+    ensures { MatchResult result
+        (λ found. copy_stages (copying_of copying) (array_in source.now) (array_in target.now)
+        (Ok (stages_found (array_in source.now) (array_in target.now) found)))
+        (λ fault. (fault ≡ Memory) ⊎ copy_stages (copying_of copying) (array_in source.now)
+        (array_in target.now) (Err fault)) }
+{
+    let Copying { choice, selection } = copying;
+    let region = elements_of(alloc, &selection, &source.grid, &target.grid)?;
+    let at = first_index(alloc, selection, &region)?;
+    let route = route_of_region(alloc, source, target, &region, &at, choice)?;
+    Ok(FoundRoute { route, region, at })
+}
+
+/// The elements that are copied, as a box of the source's array.
+///
+/// # Errors
+/// The box of chunks has another number of dimensions than the target; or out of memory.
+fn elements_of(
+    alloc: Global,
+    selection: &Selection,
+    source: &ChunkGrid,
+    target: &ChunkGrid,
+) -> Result<ArraySubset, RunFault>
+    ensures { MatchResult result
+        (λ elements. elements_in (selection_of selection.now) (dimensions_in source.now)
+        (dimensions_in target.now) (Ok elements))
+        (λ fault. (fault ≡ Memory) ⊎ elements_in (selection_of selection.now)
+        (dimensions_in source.now) (dimensions_in target.now) (Err fault)) }
+{
+    match selection {
+        Selection::All => Ok(whole_array(alloc, source)?),
+        Selection::Chunks(chunks) => match elements_of_chunks(alloc, target, chunks) {
+            Ok(elements) => Ok(elements),
+            Err(Refusal::Refused(error)) => Err(RunFault::ChunksDimensionality(error)),
+            Err(Refusal::Memory(_)) => Err(RunFault::Memory),
+        },
+        Selection::Region(region) => Ok(region.elements.clone()?),
+    }
+}
+
+/// The index at which they begin in the target's array.
+///
+/// # Errors
+/// Out of memory.
+fn first_index(
+    alloc: Global,
+    selection: Selection,
+    elements: &ArraySubset,
+) -> Result<Vec<u64>, AllocError>
+    ensures { IfOk result (λ at. at.items ≡ begins_at (selection_of selection) elements.now) }
+{
+    match selection {
+        Selection::Region(RegionAsked { at, .. }) => {
+            or_zeros(alloc, at, elements.dimensionality())
+        }
+        _ => elements.start().to_vec(alloc),
+    }
+}
+
+/// The numbers, or this number of zeros.
+///
+/// # Errors
+/// Out of memory.
+fn or_zeros(alloc: Global, numbers: Option<Vec<u64>>, count: usize) -> Result<Vec<u64>, AllocError>
+    ensures { IfOk result (λ v. v.items
+        ≡ unwrap_or (option_map (λ ns. ns.items) numbers) (replicate count 0)) }
+{
+    match numbers {
+        Some(numbers) => Ok(numbers),
+        None => {
+            let mut zeros = Vec::with_capacity(alloc, count)?;
+            zeros.resize(count, 0)?;
+            Ok(zeros)
+        }
+    }
+}
 
 /// Finds the route of the copy of a region.
 ///
 /// # Errors
 /// No tasks fit; there are too many chunks to choose tasks; the region doesn't fit the two arrays; or out of memory.
-pub(crate) fn find_route(
+fn route_of_region(
     alloc: Global,
     source: &OpenedArray,
     target: &OpenedArray,
@@ -41,9 +131,35 @@ pub(crate) fn find_route(
         (array_in target.now) region.now at.now (Err fault)) }
 {
     match choice {
-        TaskChoice::Given(order, task_chunks) => { Ok(route_of_one(alloc, order, task_chunks)?) }
+        TaskChoice::Given(order, each) => {
+            let task_chunks = or_ones(alloc, each, source.grid.dimensionality())?;
+            Ok(route_of_one(alloc, order, task_chunks)?)
+        }
         TaskChoice::Cheapest(most, read, _) => {
             cheapest_route(alloc, source, target, region, at, most, read)
+        }
+    }
+}
+
+/// The numbers, or this number of ones.
+///
+/// # Errors
+/// Out of memory.
+fn or_ones(
+    alloc: Global,
+    numbers: Option<Vec<NonZeroU64>>,
+    count: usize,
+) -> Result<Vec<NonZeroU64>, AllocError>
+    ensures { IfOk result (λ v. map non_zero_u64_get v.items
+        ≡ unwrap_or (option_map (λ ns. map non_zero_u64_get ns.items) numbers)
+        (replicate count 1)) }
+{
+    match numbers {
+        Some(numbers) => Ok(numbers),
+        None => {
+            let mut ones = Vec::with_capacity(alloc, count)?;
+            ones.resize(count, NonZeroU64::MIN)?;
+            Ok(ones)
         }
     }
 }
@@ -184,7 +300,7 @@ fn task_chunks_of(
     Ok(each)
 }
 
-/// The stages of the copy of a region by a route, one after another.
+/// The stages of a copy by the route that was found, one after another.
 ///
 /// # Errors
 /// Out of memory.
@@ -192,16 +308,15 @@ pub(crate) fn stages_of<'a>(
     alloc: Global,
     source: &'a OpenedArray,
     target: &'a OpenedArray,
-    region: ArraySubset,
-    at: Vec<u64>,
-    route: &'a Route,
+    found: &'a FoundRoute,
 ) -> Result<Vec<Stage<'a>>, AllocError>
     ensures { IfOk result (λ stages. map stage_of stages.items
-        ≡ (stages_by (array_in source.now) (array_in target.now) region at.items route.now).1) }
+        ≡ (stages_found (array_in source.now) (array_in target.now) found.now).1) }
 {
+    let route = &found.route;
     let mut stages = Vec::with_capacity(alloc, route.each.len())?;
     let mut from = source;
-    let mut left = region;
+    let mut left = found.region.clone()?;
     for (number, between) in route.between.iter().enumerate() {
         let whole = whole_array(alloc, &between.array.grid)?;
         stages.push(Stage {
@@ -216,6 +331,7 @@ pub(crate) fn stages_of<'a>(
         from = &between.array;
         left = whole;
     }
+    let at = found.at.to_vec(alloc)?;
     stages.push(Stage {
         source: from,
         target,

@@ -1,8 +1,8 @@
 //! The tasks that a document wants.
-ghost use Rattle.programs.specs.chunkplan.Common.{None, codes, in_form_or, option_map, size_of};
+ghost use Rattle.programs.specs.chunkplan.Common.{codes, in_form_or, option_map, size_of};
 ghost use Rattle.programs.specs.chunkplan.Common.{view, IsReadOr};
 ghost use Rattle.documents.specs.declared.document_fault.DocumentFault.TheVariants.{Memory};
-ghost use Rattle.programs.specs.chunkplan.Document.{choice_by, choice_in, choice_of};
+ghost use Rattle.programs.specs.chunkplan.Document.{choice_in, choice_of};
 ghost use Rattle.programs.specs.chunkplan.Document.{usual_read_elements};
 
 use crate::chunkplan::line::Order;
@@ -18,8 +18,8 @@ const READ_ELEMENTS: u64 = 2500000;
 /// Which tasks a copy is made of.
 #[derive(Drop)]
 pub(crate) enum TaskChoice {
-    /// How many neighbouring chunks of the target a task takes along each dimension, or of the source.
-    Given(Order, Vec<NonZeroU64>),
+    /// How many neighbouring chunks of the target a task takes along each dimension, or of the source. One, if nothing is given.
+    Given(Order, Option<Vec<NonZeroU64>>),
     /// The cheapest tasks, by how many elements a buffer and a largest chunk may have together, and by how many one read is worth. Perhaps the lines of one
     /// stage are asked for, by its number from 1 on.
     Cheapest(u64, u64, Option<NonZeroU64>),
@@ -41,35 +41,26 @@ impl TaskChoice {
     }
 }
 
-/// The tasks that a document asks for, if it asks for tasks.
+/// The tasks that a document asks for.
 ///
 /// # Errors
-/// The first that applies: one of `task_chunks`, `order`, `max_elements`, `read_elements` and `stage` isn't of its form. Or out of memory.
-pub(crate) fn member_choice(
-    alloc: Global,
-    tree: &Value,
-) -> Result<Option<TaskChoice>, DocumentFault>
-    ensures { IsReadOr Memory (option_map choice_of) (choice_in (view tree.now)) result }
+/// The first that applies: `max_elements`, `read_elements` or `stage` isn't of its form; or, without `max_elements`, `task_chunks` or `order` isn't. Or out of
+/// memory.
+pub(crate) fn member_choice(alloc: Global, tree: &Value) -> Result<TaskChoice, DocumentFault>
+    ensures { IsReadOr Memory choice_of (choice_in (view tree.now)) result }
 {
-    match optional_member(alloc, tree, "task_chunks")? {
-        Some(each) => {
-            let order = member_order(tree)?;
-            Ok(Some(TaskChoice::Given(order, each)))
+    match optional_member(alloc, tree, "max_elements")? {
+        Some(most) => {
+            let read = member_read(alloc, tree)?;
+            let stage = optional_member(alloc, tree, "stage")?;
+            Ok(TaskChoice::Cheapest(most, read, stage))
         }
-        None => cheapest_choice(alloc, tree),
+        None => {
+            let each = optional_member(alloc, tree, "task_chunks")?;
+            let order = member_order(tree)?;
+            Ok(TaskChoice::Given(order, each))
+        }
     }
-}
-
-/// The cheapest tasks, if a document asks for them.
-fn cheapest_choice(alloc: Global, tree: &Value) -> Result<Option<TaskChoice>, DocumentFault>
-    ensures { IsReadOr Memory (option_map choice_of) (choice_by (view tree.now) None) result }
-{
-    let Some(most) = optional_member(alloc, tree, "max_elements")? else {
-        return Ok(None);
-    };
-    let read = member_read(alloc, tree)?;
-    let stage = optional_member(alloc, tree, "stage")?;
-    Ok(Some(TaskChoice::Cheapest(most, read, stage)))
 }
 
 /// What one read is worth, in elements.

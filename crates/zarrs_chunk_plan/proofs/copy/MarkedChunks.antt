@@ -14,7 +14,7 @@ use Rattle.std.specs.Prelude.{Vec}
 use Rattle.std.specs.declared.alloc.Global.{Global}
 use Rattle.zarrs_chunk_plan.specs.StoredChunks.{IsListed, IsOfArray}
 use Rattle.zarrs_chunk_plan.specs.declared.copy.stored_chunks.StoredChunks.{StoredChunks}
-use Rattle.zarrs_chunk_plan.specs.seen.StoredChunks.{IsMarked, Knows}
+use Rattle.zarrs_chunk_plan.specs.seen.StoredChunks.{IsMarked, Knows, lies_inside, place_of}
 use Rattle.zarrs_chunk_plan.proofs.ByNumber.{at_digit, at_most_times, length-behind}
 
 -- ---- a bit of a list of numbers
@@ -53,11 +53,6 @@ none_set count number =
 
 -- ---- the number of a chunk in a box
 
--- how many chunks of the box come before this one
-abbrev pub place_of : (start shape chunk : List ℕ) → ℕ
-place_of (s ∷ start) (n ∷ shape) (c ∷ chunk) = (c - s) * length (row_major shape) + place_of start shape chunk
-place_of _ _ _ = 0
-
 pub at_place : (start shape chunk : List ℕ) → AreWithin start shape chunk
     → slice_get (chunks_in (record { start = start; shape = shape })) (place_of start shape chunk) ≡ Some chunk
 unfolding row_major
@@ -67,6 +62,16 @@ at_place (s ∷ start) (n ∷ shape) (c ∷ chunk) within =
     let found = at_digit s n (c - s) (place_of start shape chunk) start shape chunk (omega arith) (at_place start shape chunk within.2) in
     found ∙ ap (λ x. Some (x ∷ chunk)) same
 at_place _ _ _ within = absurd within
+
+pub inside_tells : (start shape chunk : List ℕ) → IsTrue (lies_inside start shape chunk) ↔ AreWithin start shape chunk
+inside_tells [] [] [] = (λ _. tt, λ _. refl)
+inside_tells (s ∷ start) (n ∷ shape) (c ∷ chunk) =
+    let rest = inside_tells start shape chunk in
+    grind arith
+inside_tells [] [] (_ ∷ _) = (λ is. absurd (true≢false (sym is)), λ within. absurd within)
+inside_tells [] (_ ∷ _) _ = (λ is. absurd (true≢false (sym is)), λ within. absurd within)
+inside_tells (_ ∷ _) [] _ = (λ is. absurd (true≢false (sym is)), λ within. absurd within)
+inside_tells (_ ∷ _) (_ ∷ _) [] = (λ is. absurd (true≢false (sym is)), λ within. absurd within)
 
 -- no other number is that of the chunk
 pub same_number : (b : Box) → IsBox b → (chunk : List ℕ) (one other : ℕ) → slice_get (chunks_in b) one ≡ Some chunk
@@ -192,19 +197,19 @@ in_box b is_box number chunk found =
     (number, slice_get_within (chunks_in b) number chunk found, get_or_from_slice_get (chunks_in b) number chunk chunk found)
 
 module _ (ds : List Dimension) (K : List ℕ → List ℕ → Type 0) (targets keys : List (List ℕ)) (key : List ℕ) (before : StoredChunks)
-    (known : Knows ds K targets keys before) (is_box : IsBox before.targets) where
+    (known : Knows ds K targets keys before) where
   -- the key is that of none of the chunks that the plan writes
   pub knows_foreign : ((chunk : List ℕ) → IsInside before.targets chunk → ¬ K chunk key) → Knows ds K targets (key ∷ keys) before
   knows_foreign foreign = record {
     held = known.held;
+    is_box = known.is_box;
     same_targets = known.same_targets;
     each = λ number chunk found.
-        let inside = in_box before.targets is_box number chunk (rw known.same_targets found) in
+        let inside = in_box before.targets known.is_box number chunk (rw known.same_targets found) in
         let (listed, stored) = known.each number chunk found in (
           λ marked. listed_more K key keys chunk (listed marked),
           λ is. ⊎_elim (λ here. absurd (foreign chunk inside here)) stored (listed_cases K key keys chunk is),
         );
-    none_past = known.none_past;
   }
 
   -- it is that of this chunk
@@ -212,10 +217,11 @@ module _ (ds : List Dimension) (K : List ℕ → List ℕ → Type 0) (targets k
       → ((other : List ℕ) → IsInside before.targets other → K other key → chunk ≡ other) → Knows ds K targets (key ∷ keys) after
   knows_marked after chunk is has only = record {
     held = λ other. rw is.held (known.held other);
+    is_box = rw is.targets known.is_box;
     same_targets = rw is.targets known.same_targets;
     each = λ number other found.
         let there = rw (sym known.same_targets) at found in
-        let inside = in_box before.targets is_box number other there in
+        let inside = in_box before.targets known.is_box number other there in
         ⊎_elim
         (λ (_, same).
         let one : chunk ≡ other = cc in
@@ -232,9 +238,6 @@ module _ (ds : List Dimension) (K : List ℕ → List ℕ → Type 0) (targets k
               stored (listed_cases K key keys other is_listed)),
         ))
         (eqb_tells number is.number);
-    none_past = λ number past.
-        let less = slice_get_within targets is.number chunk (rw known.same_targets at is.is) in
-        is.others number (λ same. omega arith) ∙ known.none_past number past;
   }
 
   -- a chunk of the box is that of the key where one was found
@@ -262,11 +265,11 @@ tells_of_array ds K held key is_held (Some it) among =
 
 -- no key was listed yet
 pub knows_none : (ds : List Dimension) (K : List ℕ → List ℕ → Type 0) (targets : List (List ℕ)) (stored : StoredChunks)
-    → ((chunk : List ℕ) → IsInside stored.held chunk ↔ Meets ds (array_box ds) chunk) → chunks_in stored.targets ≡ targets
+    → ((chunk : List ℕ) → IsInside stored.held chunk ↔ Meets ds (array_box ds) chunk) → IsBox stored.targets → chunks_in stored.targets ≡ targets
     → ((number : ℕ) → is_stored stored number ≡ false) → Knows ds K targets [] stored
-knows_none ds K targets stored held same none = record {
+knows_none ds K targets stored held is_box same none = record {
   held = held;
+  is_box = is_box;
   same_targets = same;
   each = λ number chunk _. (λ is. absurd (true≢false (sym is ∙ none number)), λ listed. absurd (listed_none K chunk listed));
-  none_past = λ number past. none number;
 }

@@ -2,7 +2,8 @@
 use Rattle.zarrs_chunk_plan.proofs.Common.{◌≡◌, ◌∙◌, ℕ, ◌-◌, List, [], ◌∷◌, Some, drop, length, map, refl, replicate, sym, arith, take-length}
 use Rattle.zarrs_chunk_plan.proofs.Common.{drop-map, length-drop, slice_get, AreBelow, row_major, chunks_in, counted_from, between, rank, Box, IsBox}
 use Rattle.zarrs_chunk_plan.proofs.BoxCover.{below_from_zero}
-use Rattle.zarrs_chunk_plan.proofs.copy.MarkedChunks.{at_place, in_box, place_of, same_number}
+use Rattle.zarrs_chunk_plan.specs.seen.StoredChunks.{place_of}
+use Rattle.zarrs_chunk_plan.proofs.copy.MarkedChunks.{at_place, in_box, same_number}
 
 -- as many lists come before one as chunks before it in the box from 0
 rank_is : (shape numbers : List ℕ) → AreBelow shape numbers → place_of (replicate (length shape) 0) shape numbers ≡ rank shape numbers

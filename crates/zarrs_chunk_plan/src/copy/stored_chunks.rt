@@ -7,8 +7,8 @@ ghost use Rattle.zarrs_chunk_axes.specs.RowMajor.{row_major};
 ghost use Rattle.zarrs_chunks.specs.Walks.{chunks_in};
 
 use crate::boxes_from_zero::{whole_array, zeros};
-use crate::copy::chunk_copies::Copies;
 use crate::copy::rechunking::chunks_of_array;
+use crate::read::walk::Parts;
 use crate::shares::numbered_chunks::count_below;
 use crate::stored_array::StoredArray;
 use std::alloc::{AllocError, Global};
@@ -32,7 +32,7 @@ pub struct StoredChunks {
 impl StoredChunks {
     ghost use Rattle.std.specs.Prelude.{◌↔◌, ◌∷◌, IsTrue, OnErr};
     ghost use Rattle.zarrs_chunk_plan.specs.StoredChunks.{IsOfArray};
-    ghost use Rattle.zarrs_chunk_plan.specs.seen.StoredChunks.{IsMarked, Knows, is_stored};
+    ghost use Rattle.zarrs_chunk_plan.specs.seen.StoredChunks.{IsMarked, Knows, has_mark, is_stored};
 
     /// Marks the chunk of a key that a store lists as stored, if the plan writes it. Tells whether the key is that of a chunk that holds elements
     /// of the target's array; such a chunk needn't be one that the plan writes.
@@ -63,9 +63,16 @@ impl StoredChunks {
         Ok(held.is_some())
     }
 
-    /// Whether the chunk with this number, counted from 0 in row-major order among those that the plan writes, is stored. A group whose
-    /// `to.whole` is false has to be copied all the same: its chunk may have been there before.
-    pub fn has(&self, number: u64) -> bool
+    /// Whether the plan writes a chunk, and the chunk is stored. A chunk that isn't written whole must be written even then: it may have been there
+    /// before.
+    pub fn has(&self, chunk: &[u64]) -> bool
+        ensures { result ≡ has_mark self.now chunk.now }
+    {
+        self.targets.contains(chunk) && self.has_number(number_in(&self.targets, chunk))
+    }
+
+    /// Whether the chunk with this number, counted from 0 in row-major order among those that the plan writes, is marked.
+    fn has_number(&self, number: u64) -> bool
         ensures { result ≡ is_stored self.now number }
     {
         match self.bits.get((number / 64) as usize) {
@@ -85,29 +92,30 @@ impl StoredChunks {
     }
 }
 
-impl<G, E, H: ChunkGridTraits, F: ChunkKeyEncodingTraits> Copies<'_, G, E, H, F> {
+impl<G: ChunkGridTraits, E: ChunkKeyEncodingTraits> Parts<'_, G, E> {
     ghost use Rattle.std.specs.Prelude.{[], IfSome};
-    ghost use Rattle.zarrs_chunk_plan.specs.seen.Copies.{all_targets, target_of};
+    ghost use Rattle.zarrs_chunk_plan.specs.seen.Parts.{all_chunks};
     ghost use Rattle.zarrs_chunk_plan.specs.seen.StoredChunks.{Knows};
 
-    /// Of all chunks that something is copied into, none is known to be stored yet; `None` where they are 536870912 or more. It takes a bit for
-    /// each of them, wherever the walk is.
+    /// Returns marks for the chunks of all parts, wherever the walk is: no chunk is known to be stored. `None` if there are 536870912 chunks or more.
+    /// The marks take a bit for each chunk.
     ///
     /// # Errors
     /// Out of memory.
     pub fn none_stored(&self, alloc: Global) -> Result<Option<StoredChunks>, AllocError>
         ensures none { IfOk result (λ found. MatchOption found
-            (2 ^ 29 ≤ length (all_targets self.now))
-            (Knows (H.dimensions (target_of self.now).grid) (F.is_key (target_of self.now).encoding)
-            (all_targets self.now) [])) }
+            (2 ^ 29 ≤ length (all_chunks self.now))
+            (Knows (G.dimensions self.now.grid.now) (E.is_key self.now.encoding.now)
+            (all_chunks self.now) [])) }
         ensures few { IfOk result (λ found. IfSome found
-            (λ _. length (all_targets self.now) < 2 ^ 29)) }
+            (λ _. length (all_chunks self.now) < 2 ^ 29)) }
     {
-        let targets = self.targets().box_of_all();
+        let targets = self.box_of_all();
+        targets.is_a_box();
         let Some(words) = words_for(targets.shape()) else {
             return Ok(None);
         };
-        let grid = self.targets().grid();
+        let grid = self.grid();
         let array = whole_array(alloc, grid)?;
         Ok(Some(StoredChunks {
             held: chunks_of_array(alloc, grid, &array)?,

@@ -2,12 +2,9 @@
 ghost use Rattle.std.specs.Prelude.{◌≡◌, ◌≢◌, ◌⊎◌, ◌<◌, ◌≤◌, ◌↔◌, ℕ, IfErr, IfOk, IfSome, List, MatchOption, fold, length, map, max, min};
 ghost use Rattle.std.specs.List.{sum};
 ghost use Rattle.zarrs_chunk_base.specs.ArraySubset.{Box, IsBox, IsEmptyBox, IsInside};
-ghost use Rattle.zarrs_chunk_base.specs.Dimension.{InBox, array_sizes};
+ghost use Rattle.zarrs_chunk_base.specs.Dimension.{array_sizes};
 ghost use Rattle.zarrs_chunk_base.specs.Refusal.{HasMemory, OrMemory};
-ghost use Rattle.zarrs_chunk_axes.specs.Along.{Along};
-ghost use Rattle.zarrs_chunk_axes.specs.InBounds.{AreBelow};
 ghost use Rattle.zarrs_chunk_plan.specs.Counts.{AreCopyCounts, AreFew, product};
-ghost use Rattle.zarrs_chunk_parts.specs.Plan.{Meets};
 ghost use Rattle.zarrs_chunk_plan.specs.Rechunking.{AreTargets, Group, IsRechunking, array_box};
 ghost use Rattle.zarrs_chunk_plan.specs.Region.{AnyChunk, CanBeMoved, IsRegionCopy, IsRegionFault, moved};
 ghost use Rattle.zarrs_chunk_plan.specs.seen.Copies.{IsCopiesFault};
@@ -15,21 +12,19 @@ ghost use Rattle.zarrs_chunk_plan.specs.seen.Parts.{FindsCovered, FindsSome};
 ghost use Rattle.zarrs_chunk_plan.specs.seen.ReadCounts.{AreCountsOf};
 ghost use Rattle.zarrs_chunk_plan.specs.seen.TargetCounts.{AreTargetCounts, met_by_each};
 ghost use Rattle.zarrs_chunk_plan.specs.seen.Sources.{AreTaking, counters};
-ghost use Rattle.zarrs_chunk_plan.specs.seen.Used.{HoldsSome, IsHeldRange};
 
 use crate::boxes_from_zero::whole_array;
+use crate::copy::chunk_elements::elements_in;
 use crate::copy::copies_error::CopiesError;
 use crate::copy::rechunking::{chunks_with, targets_of};
 use crate::copy::region::moved_box;
 use crate::copy::region_error::RegionError;
 use crate::counts::few::are_few;
-use crate::counts::sources::{Move, expect_found, sources_along_each};
-use crate::laws::all_fit;
+use crate::counts::sources::{Move, sources_along_each};
 use crate::stored_array::StoredArray;
 use std::alloc::{AllocError, Global};
 use zarrs_chunk_base::{ArrayShape, ArraySubset, IncompatibleDimensionalityError, Refusal};
 use zarrs_chunk_keys::ChunkKeyEncodingTraits;
-use zarrs_chunk_parts::box_of;
 use zarrs_chunks::ChunkGridTraits;
 
 /// How much a plan copies. Each count is the product of the numbers in its list: it may be larger than any integer type holds. These are found
@@ -249,62 +244,4 @@ fn copies_along<G: ChunkGridTraits, H: ChunkGridTraits>(
     }
     let sources = sources_along_each(alloc, copied, targets)?;
     Ok((Some(sources.in_all), Some(sources.most)))
-}
-
-/// The box of the elements of the array that chunks hold, which each hold some. Of no chunks it is an empty box.
-///
-/// # Errors
-/// Out of memory.
-fn elements_in<G: ChunkGridTraits>(
-    alloc: Global,
-    grid: &G,
-    chunks: &ArraySubset,
-) -> Result<ArraySubset, AllocError>
-    requires meet { (chunk : List ℕ) → IsInside chunks.now chunk
-        → Meets (G.dimensions grid.now) (array_box (G.dimensions grid.now)) chunk }
-    requires long { length chunks.now.start ≡ length (G.dimensions grid.now) }
-    ensures elements { IfOk result (λ b. (index : List ℕ) → IsInside b index
-        ↔ (AreBelow (array_sizes (G.dimensions grid.now)) index × ((chunk : List ℕ)
-        × IsInside chunks.now chunk × InBox (G.dimensions grid.now) chunk index))) }
-    ensures empty { IfOk result (λ b. IsEmptyBox b ↔ IsEmptyBox chunks.now) }
-{
-    chunks.is_a_box();
-    let Some(last) = chunks.end_inc(alloc)? else {
-        return Ok(ArraySubset::new_empty(alloc, grid.dimensionality())?);
-    };
-    let first = chunks.start();
-    let mut start = Vec::with_capacity(alloc, first.len())?;
-    let mut shape = Vec::with_capacity(alloc, first.len())?;
-    for dimension in 0..first.len() {
-        let range = elements_along(alloc, grid, dimension, first[dimension], last[dimension])?;
-        start.push(range.0)?;
-        shape.push(range.1)?;
-    }
-    Ok(box_of(start, shape))
-}
-
-/// The elements of the array that the chunks of a dimension hold from one up to another, which both hold some: the first one, and how many they are.
-///
-/// # Errors
-/// Out of memory.
-fn elements_along<G: ChunkGridTraits>(
-    alloc: Global,
-    grid: &G,
-    dimension: usize,
-    first: u64,
-    last: u64,
-) -> Result<(u64, u64), AllocError>
-    requires first { Along (λ d. HoldsSome d first) (G.dimensions grid.now) dimension }
-    requires last { Along (λ d. HoldsSome d last) (G.dimensions grid.now) dimension }
-    requires in_order { first ≤ last }
-    requires dimension { dimension < length (G.dimensions grid.now) }
-    ensures { IfOk result (λ range. Along (λ d. IsHeldRange d first last range.0 range.1)
-        (G.dimensions grid.now) dimension) }
-{
-    let (start, _) = expect_found(grid.range_along(alloc, dimension, first)?)?;
-    let (last_start, edge) = expect_found(grid.range_along(alloc, dimension, last)?)?;
-    let sizes = grid.array_shape();
-    all_fit(sizes);
-    let end = last_start.saturating_add(edge).min(sizes[dimension]);
-    Ok((start, end.saturating_sub(start)))
 }

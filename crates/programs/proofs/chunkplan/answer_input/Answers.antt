@@ -2,9 +2,8 @@ use Rattle.programs.specs.chunkplan.Planned.{text_of_line}
 use Rattle.programs.specs.chunkplan.seen.Steps.{ReadLeaves}
 use Rattle.programs.proofs.chunkplan.Common.{◌≡◌, ◌∙◌, ◌++◌, [], Some, ap, append-nil, false, subst, sym, true≢false, has_failed, watched}
 use Rattle.std.proofs.Common.{IfErr}
-use Rattle.programs.proofs.chunkplan.Common.{List, Option, Result, Ok, Err, RunFault, Read, StreamFault, ℕ, inl, inr, of_stream, arith}
+use Rattle.programs.proofs.chunkplan.Common.{List, Result, Ok, Err, RunFault, Read, StreamFault, ℕ, inl, inr, of_stream, arith}
 use Rattle.streams.specs.declared.stream_fault.StreamFault.TheVariants.{Read as ReadFailed}
-use Rattle.programs.specs.chunkplan.Run.{FailsAfterDocument}
 use Rattle.programs.specs.chunkplan.seen.Reads.{ReadFailsAfter}
 use Rattle.programs.proofs.chunkplan.Exits.{handed}
 use Rattle.programs.proofs.chunkplan.Common.{HasKeysBehind, behind_first, first_line, left, written, for_known, both_parts, nothing_left}

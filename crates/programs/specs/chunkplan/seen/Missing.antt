@@ -1,26 +1,34 @@
 -- What is known after some keys were read.
-use Rattle.std.specs.Prelude.{◌≡◌, ◌↔◌, ◌⊎◌, ◌++◌, ◌&&◌, if◌then◌else◌, ◌∷◌}
-use Rattle.programs.specs.chunkplan.Common.{ℕ, Bool, true, false, Contains, IfSome, length, List, [], Option, Some, IsUtf8, Dimension, EndsInSlash}
-use Rattle.programs.specs.chunkplan.Common.{Group, counted, before_share, share_of, Part, Share, Order, RunFault, KeyNotText, Memory, Read}
+use Rattle.std.specs.Prelude.{◌≡◌, ◌↔◌, ◌++◌, ◌&&◌, if◌then◌else◌, ◌∷◌}
+use Rattle.programs.specs.chunkplan.Common.{ℕ, Bool, true, false, Contains, IfSome, length, List, [], Option, None, Some, IsUtf8, Dimension, EndsInSlash}
+use Rattle.programs.specs.chunkplan.Common.{counted, before_share, share_of, Part, Share, TaskPlan, RunFault, KeyNotText, Memory, Read}
 use Rattle.zarrs_chunk_plan.specs.declared.copy.stored_chunks.StoredChunks.{StoredChunks}
-use Rattle.zarrs_chunk_plan.specs.seen.StoredChunks.{Knows, is_stored}
+use Rattle.zarrs_chunk_plan.specs.seen.StoredChunks.{Knows, has_mark}
 use Rattle.programs.specs.chunkplan.Keys.{AreForeign, IsFirstNoText, foreign_lines}
-use Rattle.programs.specs.chunkplan.Line.{group_line, lines_from}
+use Rattle.programs.specs.chunkplan.Line.{lines_from, task_line}
 
--- whether the line of a chunk of the target is left out, by its number: it is stored, and would be written whole
-abbrev pub is_left_out : Option StoredChunks → (at : Option ℕ) → Part → Bool
-is_left_out (Some stored) (Some number) to = to.whole && is_stored stored number
-is_left_out _ _ _ = false
+-- whether a chunk is stored, and would be written whole; and whether all chunks of some parts are such
+abbrev pub is_stored_whole : StoredChunks → Part → Bool
+is_stored_whole stored part = part.whole && has_mark stored part.chunk.items
 
--- the line, or nothing
-abbrev pub line_unless_stored : Order → Option StoredChunks → (at of : Option ℕ) → Group → List ℕ
-line_unless_stored order stored at of group = if is_left_out stored at group.0 then [] else group_line order at of group
+abbrev pub are_stored : StoredChunks → List Part → Bool
+are_stored stored [] = true
+are_stored stored (part ∷ parts) = is_stored_whole stored part && are_stored stored parts
 
--- the lines of a share of a plan, without those
-abbrev pub share_unless_stored : Order → Option StoredChunks → Share → List Group → List ℕ
-share_unless_stored order stored share groups =
-    lines_from (λ n. line_unless_stored order stored (counted n) (counted (length groups))) (before_share share.number share.of (length groups))
-    (share_of share groups)
+-- whether a task is left out
+abbrev pub is_left_out : Option StoredChunks → TaskPlan → Bool
+is_left_out (Some stored) plan = are_stored stored plan.1.1
+is_left_out None plan = false
+
+-- the line of a task, or nothing
+abbrev pub line_unless_stored : Option StoredChunks → (at of : Option ℕ) → TaskPlan → List ℕ
+line_unless_stored stored at of plan = if is_left_out stored plan then [] else task_line at of plan
+
+-- the lines of a share of the tasks, without those
+abbrev pub share_unless_stored : Option StoredChunks → Share → List TaskPlan → List ℕ
+share_unless_stored stored share plans =
+    lines_from (λ n. line_unless_stored stored (counted n) (counted (length plans))) (before_share share.number share.of (length plans))
+    (share_of share plans)
 
 -- of the chunks `targets` those are marked of which a key is among these
 pub record HaveMarked (target : List Dimension) (IsKeyOf : List ℕ → List ℕ → Type 0) (targets keys : List (List ℕ)) (stored : StoredChunks) : Type 0 where

@@ -1,10 +1,8 @@
 -- What values of opened arrays mean, and of walks over them.
-use Rattle.programs.specs.chunkplan.Common.{ℕ, List, Result, Dimension, array_sizes, IsKey, encoding_in, Part, Group, grid_in, RunFault}
+use Rattle.programs.specs.chunkplan.Common.{ℕ, List, Dimension, array_sizes, IsKey, encoding_in, Part, grid_in}
 use Rattle.zarrs_chunk_keys.specs.declared.chunk_key_encoding.named.ChunkKeyEncoding.{ChunkKeyEncoding}
-use Rattle.zarrs_chunk_plan.specs.declared.copy.chunk_copies.Copies.{Copies}
 use Rattle.zarrs_chunk_plan.specs.declared.stored_array.StoredArray.{StoredArray}
 use Rattle.zarrs_chunk_plan.specs.declared.read.walk.Parts.{Parts}
-use Rattle.zarrs_chunk_plan.specs.seen.Copies.{AreMovesToCome, CanMove}
 use Rattle.zarrs_chunk_plan.specs.seen.Parts.{ArePartsToCome, MeetSubset}
 use Rattle.zarrs_chunks.specs.declared.chunk_grid.named.ChunkGrid.{ChunkGrid}
 use Rattle.programs.specs.chunkplan.Planned.{Array}
@@ -28,21 +26,10 @@ key_of array = key_in array.encoding
 abbrev pub array_in : StoredArray ChunkGrid ChunkKeyEncoding → Array
 array_in array = (grid_in array.grid, encoding_in array.encoding)
 
--- what a walk over parts, or over copies, has still to give
+-- what a walk over parts has still to give
 abbrev pub PartsToCome : Parts ChunkGrid ChunkKeyEncoding → List Part → Type 0
 PartsToCome = ArePartsToCome dimensions_in key_in
-
-abbrev pub CopiesToCome : Copies ChunkGrid ChunkKeyEncoding ChunkGrid ChunkKeyEncoding → List Group → Type 0
-CopiesToCome = AreMovesToCome dimensions_in key_in dimensions_in key_in
-
--- a text by the groups of a copy, those that a walk has still to give
-abbrev pub OfGroups : Copies ChunkGrid ChunkKeyEncoding ChunkGrid ChunkKeyEncoding → (text : List Group → Result (List ℕ) RunFault → Type 0)
-    → Result (List ℕ) RunFault → Type 0
-OfGroups walk text r = (groups : List Group) × CopiesToCome walk groups × text groups r
 
 -- and that it can give them
 abbrev pub CanGiveParts : Parts ChunkGrid ChunkKeyEncoding → Type 0
 CanGiveParts = MeetSubset dimensions_in
-
-abbrev pub CanGiveCopies : Copies ChunkGrid ChunkKeyEncoding ChunkGrid ChunkKeyEncoding → Type 0
-CanGiveCopies = CanMove dimensions_in dimensions_in

@@ -1,12 +1,12 @@
 -- A line in the pieces in which it is sent.
 use Rattle.std.specs.Prelude.{◌∷◌, ◌++◌}
 use Rattle.programs.specs.chunkplan.Common.{ℕ, zero, suc, Bool, true, false, Json, List, [], codes, Option, None, Some, option_map, print, Token, begin_array, begin_object}
-use Rattle.programs.specs.chunkplan.Common.{boolean, end_array, end_object, key, json_tokens, members_tokens, Part, Order, Source, Target}
+use Rattle.programs.specs.chunkplan.Common.{boolean, end_array, end_object, key, json_tokens, Part}
 use Rattle.programs.specs.chunkplan.Document.{RangesWanted, ranges_asked_of}
-use Rattle.programs.specs.chunkplan.Line.{chunk_json, count_json, end_members, line_of, numbers_json, overlap_json, part_json, part_ranges_json, piece_json}
+use Rattle.programs.specs.chunkplan.Line.{count_json, line_of, numbers_json, overlap_json, part_json, part_ranges_json}
 use Rattle.streams.specs.OneLine.{line_of as one_line, unbroken}
 use Rattle.programs.specs.declared.chunkplan.line.Form.{Form}
-use Rattle.programs.specs.declared.chunkplan.line.Form.TheVariants.{Line, Overlap, Piece}
+use Rattle.programs.specs.declared.chunkplan.line.Form.TheVariants.{Line, Overlap}
 
 -- a comma, but before the first
 abbrev pub comma_before : Option ℕ → List ℕ
@@ -22,37 +22,15 @@ comma_but_first (suc n) = codes ","
 abbrev pub item_text : (Part → Json) → Option ℕ → Part → List ℕ
 item_text json at part = comma_before at ++ unbroken (print (json_tokens (json part)))
 
--- the text of a piece, by its number, in the line of this part of a chunk
-abbrev pub piece_text : Order → (of : Part) → Option ℕ → Part → List ℕ
-piece_text order of = item_text (piece_json order of.in_chunk.start)
-
--- the text of a part by its number: a line of a read, a piece of the line of a chunk, or an item in the line of a task
+-- the text of a part by its number: a line of a read, or an item in the line of a task
 abbrev pub text_as : Form → Option ℕ → Part → List ℕ
 text_as (Line of ranges) at part = line_of (part_json at of (option_map ranges_asked_of ranges) part)
-text_as (Piece order of) at part = piece_text order of.now at part
 text_as (Overlap written) at part = item_text (overlap_json written) at part
 
 -- the tokens of the byte ranges of a part, where they are wanted
 abbrev pub ranges_tokens : Option RangesWanted → Part → List Token
 ranges_tokens None part = []
 ranges_tokens (Some wanted) part = key (codes "ranges") ∷ json_tokens (part_ranges_json wanted part)
-
--- the tokens of the last member of a piece, where it has it
-abbrev pub whole_tokens : Order → Part → List Token
-whole_tokens Target part = []
-whole_tokens Source part = key (codes "whole") ∷ boolean part.whole ∷ []
-
--- the tokens before the pieces of a line, and those behind them
-abbrev pub begin_tokens : Order → (at of : Option ℕ) → Part → List Token
-begin_tokens Target at of part = begin_object ∷ key (codes "from") ∷ begin_array ∷ []
-begin_tokens Source at of part =
-    begin_object ∷ key (codes "from") ∷ (json_tokens (chunk_json part)
-    ++ key (codes "number") ∷ (json_tokens (count_json at)
-    ++ key (codes "of") ∷ (json_tokens (count_json of) ++ key (codes "to") ∷ begin_array ∷ [])))
-
-abbrev pub end_tokens : Order → (at of : Option ℕ) → Part → List Token
-end_tokens Target at of part = end_array ∷ members_tokens (end_members at of part)
-end_tokens Source at of part = end_array ∷ end_object ∷ []
 
 -- the tokens of the last member of an overlap, if it has one
 abbrev pub whole_if_tokens : (written : Bool) → Part → List Token
@@ -67,13 +45,6 @@ abbrev pub middle_task_tokens : (at of : Option ℕ) → List Token
 middle_task_tokens at of =
     end_array ∷ key (codes "number") ∷ (json_tokens (count_json at)
     ++ key (codes "of") ∷ (json_tokens (count_json of) ++ key (codes "to") ∷ begin_array ∷ []))
-
--- the beginning of the line of a chunk, and its end
-abbrev pub begin_of_line : Order → (at of : Option ℕ) → Part → List ℕ
-begin_of_line order at of part = unbroken (print (begin_tokens order at of part))
-
-abbrev pub end_of_line : Order → (at of : Option ℕ) → Part → List ℕ
-end_of_line order at of part = one_line (print (end_tokens order at of part))
 
 -- the texts of the line of a task, but for what it reads and writes
 abbrev pub begin_of_task : (buffer : List ℕ) → List ℕ

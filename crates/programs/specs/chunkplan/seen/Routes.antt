@@ -5,6 +5,7 @@ use Rattle.zarrs_chunk_base.specs.Grid.{Grid}
 use Rattle.programs.specs.chunkplan.Planned.{Array}
 use Rattle.programs.specs.chunkplan.Stages.{Stage, Stages, staged}
 use Rattle.programs.specs.chunkplan.seen.Opened.{array_in}
+use Rattle.programs.specs.declared.chunkplan.route.FoundRoute.{FoundRoute}
 use Rattle.programs.specs.declared.chunkplan.route.Intermediate.{Intermediate}
 use Rattle.programs.specs.declared.chunkplan.route.Route.{Route}
 use Rattle.programs.specs.declared.chunkplan.route.Stage.{Stage as StageValue}
@@ -19,6 +20,10 @@ stages_by source target region at route = (
   route.is_exact,
   staged route.order source target region at (map intermediate_of route.between.items) (map (λ each. map non_zero_u64_get each.items) route.each.items),
 )
+
+-- so of the route that was found for a copy
+abbrev pub stages_found : (source target : Array) → FoundRoute → Stages
+stages_found source target found = stages_by source target found.region found.at.items found.route
 
 abbrev pub stage_of : StageValue → Stage
 stage_of stage = record {

@@ -1,4 +1,4 @@
-use Rattle.programs.proofs.chunkplan.Common.{◌≡◌, None, Some, Err, codes, inl, inr, refl, rules, ⊎_elim, MatchResult-weaker, get, view, copying_in}
+use Rattle.programs.proofs.chunkplan.Common.{◌≡◌, None, Some, codes, inl, inr, refl, rules, ⊎_elim, MatchResult-weaker, get, view, copying_in}
 use Rattle.programs.proofs.chunkplan.Common.{of_document, stops_told}
 use Rattle.programs.proofs.chunkplan.document.copying_from.Goals as goal
 

@@ -1,5 +1,4 @@
-use Rattle.programs.proofs.chunkplan.Common.{None, Some, inl, inr, refl, ⊎_elim, MatchResult-weaker, view, choice_of, rechunking_in, of_document, stops_or}
-use Rattle.programs.proofs.chunkplan.Common.{stops_told}
+use Rattle.programs.proofs.chunkplan.Common.{ap, copy_to, inl, refl, stored_of, view, choice_of, rechunking_in, of_document, both, later, stops_or, stops_told}
 use Rattle.programs.proofs.chunkplan.document.rechunking_to.Goals as goal
 
 pub returns-in_err-check_target : goal.returns-in_err-check_target
@@ -9,17 +8,16 @@ returns-in_err-check_target c =
 
 pub returns-in_err-choice : goal.returns-in_err-choice
 returns-in_err-choice c =
-    stops_told _ (rechunking_in (view c.args.tree.now) (view c.args.target)) _ of_document _ c.from_residual-in_err-choice.ensures.1 _
-    c.in_err-choice.ensures (λ is. inr (_, c.in_ok-check_target.ensures, inr (_, c.in_ok-stored.ensures, inl (_, is, refl))))
+    stops_told _ (rechunking_in (view c.args.tree.now) (view c.args.target)) _ of_document _ c.from_residual-in_err-choice.ensures.1 _ c.in_err-choice.ensures
+    (λ is. later _ c.in_ok-check_target.ensures (later _ c.in_ok-stored.ensures (inl (_, is, refl))))
 
-pub returns-in-Some : goal.returns-in-Some
-returns-in-Some c =
-    let chosen = rw c.in-Some.is at c.in_ok-choice.ensures in
-    (_, c.in_ok-check_target.ensures, (_, c.in_ok-stored.ensures, (Some (choice_of c.in-Some.choice), chosen, refl)))
+pub returns-in_err-chunks : goal.returns-in_err-chunks
+returns-in_err-chunks c =
+    stops_or _ (rechunking_in (view c.args.tree.now) (view c.args.target)) _ _ c.from_residual-in_err-chunks.ensures.1 _ c.in_err-chunks.ensures
+    (λ is. later _ c.in_ok-check_target.ensures (later _ c.in_ok-stored.ensures (later _ c.in_ok-choice.ensures (inl is))))
 
 pub returns : goal.returns
 returns c =
-    let none = rw c.in-None.is at c.in_ok-choice.ensures in
-    MatchResult-weaker c.ordered.result c.ordered.ensures
-    (λ task is. (_, c.in_ok-check_target.ensures, (_, c.in_ok-stored.ensures, (None, none, is))))
-    (λ fault. ⊎_elim inl (λ is. inr (inr (_, c.in_ok-check_target.ensures, inr (_, c.in_ok-stored.ensures, inr (None, none, is))))))
+    let same = ap (λ selection. copy_to (stored_of c.in_ok-stored.stored) (record { choice = choice_of c.in_ok-choice.choice; selection = selection }))
+    c.into_box-selection.ensures in
+    both _ c.in_ok-check_target.ensures (both _ c.in_ok-stored.ensures (both _ c.in_ok-choice.ensures (both _ c.in_ok-chunks.ensures same)))

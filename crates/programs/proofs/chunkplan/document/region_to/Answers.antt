@@ -1,4 +1,4 @@
-use Rattle.programs.proofs.chunkplan.Common.{ap, copy_to, inl, refl, stored_of, view, region_in, of_document, both, later, stops_or, stops_told}
+use Rattle.programs.proofs.chunkplan.Common.{inl, refl, view, region_in, of_document, both, later, stops_or, stops_told}
 use Rattle.programs.proofs.chunkplan.document.region_to.Goals as goal
 
 pub returns-in_err-check_type : goal.returns-in_err-check_type
@@ -30,6 +30,5 @@ returns-in_err-choice c =
 
 pub returns : goal.returns
 returns c =
-    let same = ap (copy_to (stored_of c.in_ok-target.target)) c.region_with.ensures in
     both _ c.in_ok-check_type.ensures (both _ c.in_ok-shape.ensures (both _ c.in_ok-target.ensures (both _ c.in_ok-elements.ensures
-    (both _ c.in_ok-at.ensures (both _ c.in_ok-choice.ensures same)))))
+    (both _ c.in_ok-at.ensures (both _ c.in_ok-choice.ensures refl)))))

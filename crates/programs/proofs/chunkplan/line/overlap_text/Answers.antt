@@ -16,7 +16,7 @@ returns c =
     (then _ _ _ _ _ shape
     (then _ _ _ _ _ c.in_ok-write_whole_if.ensures (wrote _ _ _ c.in_ok-end_object.ensures)))))))
     in
-    let printed = rw (all.tokens, all.before, c.new-json.ensures.tokens, c.new-json.ensures.before, c.in_ok-begin_piece.ensures)
+    let printed = rw (all.tokens, all.before, c.new-json.ensures.tokens, c.new-json.ensures.before, c.in_ok-begin_item.ensures)
     at c.into_inner.ensures.items in
     let text : c.into_inner.result.items ≡ comma_before c.args.number ++ print (json_tokens (overlap_json c.args.written c.args.part.now)) =
     rw (overlap_tokens c.args.written c.args.part.now) printed in

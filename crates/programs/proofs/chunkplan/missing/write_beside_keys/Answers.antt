@@ -4,7 +4,7 @@ use Rattle.programs.specs.chunkplan.seen.Opened.{array_in}
 use Rattle.programs.proofs.chunkplan.KeySteps.{read_first, read_later}
 use Rattle.programs.proofs.chunkplan.ReadsLast.{fails_later, fails_of_share}
 use Rattle.programs.proofs.chunkplan.RunOutcomes.{source_still, target_still}
-use Rattle.programs.proofs.chunkplan.StoredLines.{of_share}
+use Rattle.programs.proofs.chunkplan.StoredTasks.{of_share}
 use Rattle.programs.proofs.chunkplan.missing.write_beside_keys.Goals as goal
 
 pub returns-in_err-array-clause-leaves : goal.returns-in_err-array-clause-leaves
@@ -22,8 +22,8 @@ returns-in_err-target-in-Copy-Lines-clause-leaves g c = λ bytes is.
     let copying = copying_of c.in-Copy-Lines.copying in
     of_share document source stored copying _ (rw c.deref.ensures.value at c.in_ok-array.ensures.made)
     (ap task_of c.in-Copy-Lines.is-0) (ap wanted_of c.in-Copy-Lines.is-1) bytes _ _ _ _ _ _
-    (read_first (target_in stored (target_shape copying document.shape)) (copy_beside copying c.in-Copy-Lines.share bytes source) _ _ _
-    (target_still stored (target_shape copying document.shape)) _ _ c.from_residual-in_err-target-in-Copy-Lines.ensures.1
+    (read_first (target_in stored (target_shape copying.selection document.shape)) (copy_beside copying c.in-Copy-Lines.share bytes source) _ _ _
+    (target_still stored (target_shape copying.selection document.shape)) _ _ c.from_residual-in_err-target-in-Copy-Lines.ensures.1
     (rw (c.target_shape.ensures, c.deref-in-Copy-Lines.ensures.value) at c.in_err-target-in-Copy-Lines.ensures.made))
 
 pub returns-clause-leaves : goal.returns-clause-leaves
@@ -34,7 +34,7 @@ returns-clause-leaves g c = λ bytes is.
     let copying = copying_of c.in-Copy-Lines.copying in
     of_share document source stored copying _ (rw c.deref.ensures.value at c.in_ok-array.ensures.made)
     (ap task_of c.in-Copy-Lines.is-0) (ap wanted_of c.in-Copy-Lines.is-1) bytes _ _ _ _ _ _
-    (read_later (target_in stored (target_shape copying document.shape)) (copy_beside copying c.in-Copy-Lines.share bytes source) _ _ _
+    (read_later (target_in stored (target_shape copying.selection document.shape)) (copy_beside copying c.in-Copy-Lines.share bytes source) _ _ _
     (array_in c.in_ok-target-in-Copy-Lines.target)
     (rw (c.target_shape.ensures, c.deref-in-Copy-Lines.ensures.value) at c.in_ok-target-in-Copy-Lines.ensures.made) _ _ _
     (c.write_copy.ensures.leaves bytes is))
@@ -47,7 +47,7 @@ returns-clause-keys_last g c =
     let copying = copying_of c.in-Copy-Lines.copying in
     fails_of_share document source stored copying _ (rw c.deref.ensures.value at c.in_ok-array.ensures.made)
     (ap task_of c.in-Copy-Lines.is-0) (ap wanted_of c.in-Copy-Lines.is-1) [] c.write_copy.result
-    (fails_later (target_in stored (target_shape copying document.shape)) (copy_beside copying c.in-Copy-Lines.share [] source)
+    (fails_later (target_in stored (target_shape copying.selection document.shape)) (copy_beside copying c.in-Copy-Lines.share [] source)
     (array_in c.in_ok-target-in-Copy-Lines.target)
     (rw (c.target_shape.ensures, c.deref-in-Copy-Lines.ensures.value) at c.in_ok-target-in-Copy-Lines.ensures.made) c.write_copy.result
     c.write_copy.ensures.keys_last)

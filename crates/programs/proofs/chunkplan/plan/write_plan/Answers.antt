@@ -38,8 +38,8 @@ returns-in_err-target-in-Copy g c =
     let stored = stored_of c.in-Copy.target in
     let copying = copying_of c.in-Copy.copying in
     by_task document source (copy_to stored copying) (ap task_of c.in-Copy.is) (rw c.deref.ensures.value at c.in_ok-array.ensures.made) _ _ _
-    (step_first (target_in stored (target_shape copying document.shape)) (copy_text copying document.wanted source) _
-    (target_still stored (target_shape copying document.shape)) _ _ c.from_residual-in_err-target-in-Copy.ensures.1
+    (step_first (target_in stored (target_shape copying.selection document.shape)) (copy_text copying document.wanted source) _
+    (target_still stored (target_shape copying.selection document.shape)) _ _ c.from_residual-in_err-target-in-Copy.ensures.1
     (rw (c.target_shape.ensures, c.deref-in-Copy.ensures.value) at c.in_err-target-in-Copy.ensures.made))
 
 pub returns-in-Copy : goal.returns-in-Copy
@@ -49,7 +49,7 @@ returns-in-Copy g c =
     let stored = stored_of c.in-Copy.target in
     let copying = copying_of c.in-Copy.copying in
     by_task document source (copy_to stored copying) (ap task_of c.in-Copy.is) (rw c.deref.ensures.value at c.in_ok-array.ensures.made) _ _ _
-    (step_later (target_in stored (target_shape copying document.shape)) (copy_text copying document.wanted source) _
+    (step_later (target_in stored (target_shape copying.selection document.shape)) (copy_text copying document.wanted source) _
     (array_in c.in_ok-target-in-Copy.target)
     (rw (c.target_shape.ensures, c.deref-in-Copy.ensures.value) at c.in_ok-target-in-Copy.ensures.made) _ _ c.write_copy.ensures)
 

@@ -9,7 +9,7 @@ use Rattle.programs.proofs.chunkplan.stages.stages_of.Goals as goal
 
 pub loop-number-preserved : goal.loop-number-preserved
 loop-number-preserved c =
-    let route = c.args.route.now in
+    let route = c.args.found.now.route in
     let k = c.loop-number.number in
     let item = c.between-item.result in
     let within : k < length route.between.items = rw c.deref-between-items.ensures.value at c.loop-number-test.true in
@@ -22,7 +22,7 @@ loop-number-preserved c =
     let start : c.start.result.now ≡ c.in_ok-whole.whole.start = c.start.ensures.value in
     let copied : c.in_ok-to_vec.field-0.items ≡ c.start.result.now = c.in_ok-to_vec.ensures.items_if_clones_equal (λ x y same. same) in
     rw (c.in_ok-push.ensures.items, map-append stage_of c.loop-number.stages.items (_ ∷ []), edges, shape, c.left.view_is)
-    (one_more_stage route.order (array_in c.loop-number.from.now) (array_in c.args.target.now) c.loop-number.left c.args.at.items
+    (one_more_stage route.order (array_in c.loop-number.from.now) (array_in c.args.target.now) c.loop-number.left c.args.found.now.at.items
     (map intermediate_of (drop k route.between.items)) (map (λ each. map non_zero_u64_get each.items) (drop k route.each.items))
     (map stage_of c.loop-number.stages.items) _ c.loop-number.invariant (intermediate_of item) (map intermediate_of (drop (k + 1) route.between.items))
     (map non_zero_u64_get c.index.result.now.items) (map (λ each. map non_zero_u64_get each.items) (drop (k + 1) route.each.items))
@@ -32,7 +32,7 @@ loop-number-preserved c =
 
 pub returns : goal.returns
 returns c =
-    let route = c.args.route.now in
+    let route = c.args.found.now.route in
     let k = c.loop-number.number in
     let past : length route.between.items ≤ k = rw c.deref-between-items.ensures.value at c.loop-number-test.false in
     let before : k ≤ length route.between.items = rw c.deref-between-items.ensures.value at c.loop-number.auto.number-end in
@@ -40,10 +40,12 @@ returns c =
     omega (arith, c.loop-number-test.false, c.loop-number.auto.number-end, c.len-2.ensures, c.deref-between-items.ensures.len) in
     let long : length route.each.items ≡ suc (length route.between.items) = route.lengths in
     let each : c.index-2.result.now ≡ get_or route.each.items c.len-2.result c.index-2.result.now = c.index-2.ensures in
-    let edges : c.deref-2.result.now ≡ c.index-2.result.now.items = c.deref-2.ensures.value in
-    rw (c.in_ok-push-2.ensures.items, map-append stage_of c.loop-number.stages.items (_ ∷ []), edges)
-    (last_stage route.order (array_in c.loop-number.from.now) (array_in c.args.target.now) c.loop-number.left c.args.at.items
+    let edges : c.deref-3.result.now ≡ c.index-2.result.now.items = c.deref-3.ensures.value in
+    let start : c.deref-2.result.now ≡ c.args.found.now.at.items = c.deref-2.ensures.value in
+    let copied : c.in_ok-at.at.items ≡ c.deref-2.result.now = c.in_ok-at.ensures.items_if_clones_equal (λ x y same. same) in
+    rw (c.in_ok-push-2.ensures.items, map-append stage_of c.loop-number.stages.items (_ ∷ []), edges, copied, start)
+    (last_stage route.order (array_in c.loop-number.from.now) (array_in c.args.target.now) c.loop-number.left c.args.found.now.at.items
     (map intermediate_of (drop k route.between.items)) (map (λ each. map non_zero_u64_get each.items) (drop k route.each.items))
-    (map stage_of c.loop-number.stages.items) _ (rw c.region.view_is at c.loop-number.invariant) (map non_zero_u64_get c.index-2.result.now.items)
+    (map stage_of c.loop-number.stages.items) _ c.loop-number.invariant (map non_zero_u64_get c.index-2.result.now.items)
     (map (λ each. map non_zero_u64_get each.items) (drop (k + 1) route.each.items)) (ap (map intermediate_of) (drop_all k route.between.items past))
     (first_dropped (λ each. map non_zero_u64_get each.items) route.each.items k c.index-2.result.now (omega (arith, past, before, long)) (rw (← here) at each)))

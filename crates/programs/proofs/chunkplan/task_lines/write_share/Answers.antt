@@ -1,5 +1,6 @@
-use Rattle.programs.proofs.chunkplan.Common.{◌≡◌, ◌∙◌, ap, inl, length, refl, sym, share_of, task_line}
+use Rattle.programs.proofs.chunkplan.Common.{◌≡◌, ◌∙◌, ap, inl, length, option_map, refl, sym, share_of}
 use Rattle.zarrs_chunk_tasks.specs.seen.Tasks.{all_groups}
+use Rattle.programs.specs.chunkplan.seen.Missing.{line_unless_stored}
 use Rattle.programs.proofs.chunkplan.Exits.{handed}
 use Rattle.programs.proofs.chunkplan.SharedLines.{lines_of_share}
 use Rattle.programs.proofs.chunkplan.Steps.{text_follows}
@@ -32,6 +33,6 @@ returns g c =
     let count : length (all_groups walk) ≡ length all = ap length c.requires.all ∙ sym long in (
       all,
       come_all,
-      lines_of_share (λ at of plan. task_line at of plan) share all plans (length (all_groups walk)) _ text (ap length shared.all ∙ count) count is_share lines,
+      lines_of_share (λ at of plan. line_unless_stored (option_map (λ s. s.now) c.args.stored) at of plan) share all plans (length (all_groups walk)) _ text (ap length shared.all ∙ count) count is_share lines,
     ))
     _ _ _ (c.write_tasks.ensures _ shared.before)

@@ -1,11 +1,12 @@
 use Rattle.programs.proofs.chunkplan.Common.{◌≡◌, ◌∙◌, ℕ, Bool, true, false, List, [], ◌++◌, IfOk, Option, Err, Ok, Result, Vec, AllocError, append_assoc, inl, refl, sym, IsBox}
 use Rattle.programs.proofs.chunkplan.Common.{Box, ChunkGrid, ChunkKeyEncoding, IsPlan, Part, Parts, at_first, counted, lines_from, begin_of_task, end_of_task}
-use Rattle.programs.proofs.chunkplan.Common.{item_text, middle_of_task, overlap_json, plan_of, task_line, TaskPlan, written}
+use Rattle.programs.proofs.chunkplan.Common.{item_text, middle_of_task, option_map, overlap_json, plan_of, StoredChunks, TaskPlan, sends_nothing, written}
 use Rattle.std.specs.declared.alloc.Global.{Global}
 use Rattle.zarrs_chunk_plan.specs.declared.stored_array.StoredArray.{StoredArray}
 use Rattle.zarrs_chunk_plan.specs.seen.Parts.{IsPlanned}
 use Rattle.zarrs_chunk_plan.proofs.Walked.{planned_meet}
 use Rattle.zarrs_chunk_tasks.specs.declared.task.Task.{Task}
+use Rattle.programs.specs.chunkplan.seen.Missing.{is_left_out, line_unless_stored}
 use Rattle.programs.specs.chunkplan.seen.Opened.{PartsToCome, dimensions_in, dimensions_of, key_in, key_of}
 use Rattle.programs.specs.chunkplan.seen.PlannedTasks.{HasPartsOf}
 use Rattle.programs.specs.chunkplan.seen.Steps.{IsMade}
@@ -48,7 +49,8 @@ module _ (array : StoredArray ChunkGrid ChunkKeyEncoding) (b : Box) (walk : Part
 
 -- ---- the line, as far as it was sent
 
-module _ (source target : StoredArray ChunkGrid ChunkKeyEncoding) (task : Task) (number of : Option ℕ) where
+module _ (source target : StoredArray ChunkGrid ChunkKeyEncoding) (task : Task) (number of : Option ℕ) (stored : Option StoredChunks)
+    (comes : (plan : TaskPlan) → IsPlan (dimensions_of target) (key_of target) task.target plan.1.1 → is_left_out stored plan ≡ false) where
   abbrev Reads : List ℕ → Type 0
   Reads = AreItems source task.source (begin_of_task task.source.shape) false
 
@@ -56,12 +58,16 @@ module _ (source target : StoredArray ChunkGrid ChunkKeyEncoding) (task : Task) 
   Writes = AreItems target task.target (middle_of_task number of) true
 
   abbrev IsLine : List ℕ → Type 0
-  IsLine text = (plan : TaskPlan) × (plan.0 ≡ task) × HasPartsOf source target plan × (text ≡ task_line number of plan)
+  IsLine text = (plan : TaskPlan) × (plan.0 ≡ task) × HasPartsOf source target plan × (text ≡ line_unless_stored stored number of plan)
 
   line_of_both : (one other last : List ℕ) → Reads one → Writes other → last ≡ end_of_task → IsLine ((one ++ other) ++ last)
   line_of_both one other last (from, reads, is) (into, writes, also) ends =
-      let plan : TaskPlan = (task, (from, into)) in
-      (plan, refl, record { reads = reads; writes = writes }, rw (is, also, ends) (sym (in_task task.source.shape number of plan refl)))
+      let plan : TaskPlan = (task, (from, into)) in (
+        plan,
+        refl,
+        record { reads = reads; writes = writes },
+        rw (is, also, ends) (rw (comes plan writes) (sym (in_task task.source.shape number of plan refl))),
+      )
 
   reads_begin : ((into : List Part) × IsPlan (dimensions_of target) (key_of target) task.target into) → Begins Reads IsLine
   reads_begin (into, writes) text reads =
@@ -96,6 +102,22 @@ returns-in_err-from g c = rw (handed _ _ c.from_residual.ensures.1) (refl, inl r
 pub returns-in_err-into : goal.returns-in_err-into
 returns-in_err-into g c = rw (handed _ _ c.from_residual-in_err-into.ensures.1) (refl, inl refl)
 
+pub returns-then-left_out : goal.returns-then-left_out
+returns-then-left_out g c =
+    let source = c.args.source.now in
+    let target = c.args.target.now in
+    let task = c.args.task.now in
+    let stored = option_map (λ s. s.now) c.args.stored in
+    let (from, reads) = has_plan source task.source c.in_ok-from.from (rw c.in_ok-from.ensures at c.parts.ensures.planned) c.is_a_box.ensures in
+    let (into, writes) = has_plan target task.target c.in_ok-into.into (rw c.in_ok-into.ensures at c.parts-2.ensures.planned) c.is_a_box-2.ensures in
+    let plan : TaskPlan = (task, (from, into)) in
+    let is : is_left_out stored plan ≡ true = sym (c.in_ok-left_out.ensures plan writes) ∙ c.if-left_out.true in (
+      [],
+      (plan, refl, record { reads = reads; writes = writes }, rw is refl),
+      sends_nothing (written g.W.Write.contents c.args.sink.now),
+      refl,
+    )
+
 pub returns-in_err-write_items : goal.returns-in_err-write_items
 returns-in_err-write_items g c =
     let source = c.args.source.now in
@@ -103,9 +125,12 @@ returns-in_err-write_items g c =
     let task = c.args.task.now in
     let read = rw c.in_ok-from.ensures at c.parts.ensures.planned in
     let into = rw c.in_ok-into.ensures at c.parts-2.ensures.planned in
+    let stored = option_map (λ s. s.now) c.args.stored in
+    let comes : (plan : TaskPlan) → IsPlan (dimensions_of target) (key_of target) task.target plan.1.1 → is_left_out stored plan ≡ false =
+    λ plan writes. sym (c.in_ok-left_out.ensures plan writes) ∙ c.if-left_out.false in
     rw (handed _ _ c.from_residual-in_err-write_items.ensures.1)
     (stops_whole _ _
-    (reads_begin source target task c.args.number c.args.of (has_plan target task.target c.in_ok-into.into into c.is_a_box-2.ensures)) _ _ _
+    (reads_begin source target task c.args.number c.args.of stored comes (has_plan target task.target c.in_ok-into.into into c.is_a_box-2.ensures)) _ _ _
     (text_follows _ _ (λ _. ⊥) (are_items source task.source c.in_ok-from.from read c.task_begin-begin.result _ false (rw c.shape.ensures.value at c.task_begin-begin.ensures)) _ _
     (Err c.in_err-write_items.field-0.0) c.in_err-write_items.ensures))
 
@@ -116,12 +141,15 @@ returns-in_err-write_items-2 g c =
     let task = c.args.task.now in
     let read = rw c.in_ok-from.ensures at c.parts.ensures.planned in
     let into = rw c.in_ok-into.ensures at c.parts-2.ensures.planned in
+    let stored = option_map (λ s. s.now) c.args.stored in
+    let comes : (plan : TaskPlan) → IsPlan (dimensions_of target) (key_of target) task.target plan.1.1 → is_left_out stored plan ≡ false =
+    λ plan writes. sym (c.in_ok-left_out.ensures plan writes) ∙ c.if-left_out.false in
     rw (handed _ _ c.from_residual-in_err-write_items-2.ensures.1)
-    (stops_behind (Reads source target task c.args.number c.args.of) (Writes source target task c.args.number c.args.of) _ _ _ _
+    (stops_behind (Reads source target task c.args.number c.args.of stored comes) (Writes source target task c.args.number c.args.of stored comes) _ _ _ _
     (text_follows _ _ (λ _. ⊥) (are_items source task.source c.in_ok-from.from read c.task_begin-begin.result _ false (rw c.shape.ensures.value at c.task_begin-begin.ensures)) _ _ (Ok tt)
     c.in_ok-write_items.ensures)
-    (reads_begin source target task c.args.number c.args.of (has_plan target task.target c.in_ok-into.into into c.is_a_box-2.ensures))
-    (both_begin source target task c.args.number c.args.of) _
+    (reads_begin source target task c.args.number c.args.of stored comes (has_plan target task.target c.in_ok-into.into into c.is_a_box-2.ensures))
+    (both_begin source target task c.args.number c.args.of stored comes) _
     (text_follows _ _ (λ _. ⊥) (are_items target task.target c.in_ok-into.into into c.task_middle-middle.result _ true c.task_middle-middle.ensures) _ _
     (Err c.in_err-write_items-2.field-0.0) c.in_err-write_items-2.ensures))
 
@@ -134,13 +162,16 @@ returns g c =
     let of = c.args.of in
     let read = rw c.in_ok-from.ensures at c.parts.ensures.planned in
     let into = rw c.in_ok-into.ensures at c.parts-2.ensures.planned in
-    let IsReads = Reads source target task number of in
-    let IsWrites = Writes source target task number of in
+    let stored = option_map (λ s. s.now) c.args.stored in
+    let comes : (plan : TaskPlan) → IsPlan (dimensions_of target) (key_of target) task.target plan.1.1 → is_left_out stored plan ≡ false =
+    λ plan writes. sym (c.in_ok-left_out.ensures plan writes) ∙ c.if-left_out.false in
+    let IsReads = Reads source target task number of stored comes in
+    let IsWrites = Writes source target task number of stored comes in
     let IsEnd : List ℕ → Type 0 = λ text. text ≡ end_of_task in
     let first = text_follows _ IsReads (λ _. ⊥) (are_items source task.source c.in_ok-from.from read c.task_begin-begin.result _ false (rw c.shape.ensures.value at c.task_begin-begin.ensures)) _ _ (Ok tt)
     c.in_ok-write_items.ensures in
     let second = text_follows _ IsWrites (λ _. ⊥) (are_items target task.target c.in_ok-into.into into c.task_middle-middle.result _ true c.task_middle-middle.ensures) _ _
     (Ok tt) c.in_ok-write_items-2.ensures in
     ends_behind (Behind IsReads IsWrites) IsEnd _ _ _ _ (sent_behind IsReads IsWrites (λ _. ⊥) _ _ _ first second)
-    (both_begin source target task number of) (is_line source target task number of) _
+    (both_begin source target task number of stored comes) (is_line source target task number of stored comes) _
     (step_made IsEnd c.task_end.result c.task_end.ensures _ _ _ c.send_text.ensures)

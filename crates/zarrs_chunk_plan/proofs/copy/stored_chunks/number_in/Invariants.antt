@@ -1,5 +1,5 @@
 use Rattle.zarrs_chunk_plan.proofs.Common.{◌≡◌, min, take, greatest}
-use Rattle.zarrs_chunk_plan.proofs.copy.MarkedChunks.{place_of}
+use Rattle.zarrs_chunk_plan.specs.seen.StoredChunks.{place_of}
 use Rattle.zarrs_chunk_plan.proofs.copy.stored_chunks.number_in.Given as goal
 
 -- the number that the dimensions so far give

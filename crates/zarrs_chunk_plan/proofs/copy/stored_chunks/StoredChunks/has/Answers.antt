@@ -1,20 +1,32 @@
-use Rattle.zarrs_chunk_plan.proofs.Common.{◌≡◌, ◌==◌, ◌∙◌, ◌/◌, ◌%◌, ◌≤◌, ap, get_or, sym, arith, bit_at, is_stored}
-use Rattle.zarrs_chunk_plan.proofs.copy.MarkedChunks.{none_there}
+use Rattle.zarrs_chunk_plan.proofs.Common.{◌≡◌, ◌∙◌, Bool, true, false, IsTrue, ap, refl, sym, true≢false, is_stored}
+use Rattle.zarrs_chunk_plan.specs.seen.StoredChunks.{has_mark, lies_inside, place_of}
+use Rattle.zarrs_chunk_plan.proofs.copy.MarkedChunks.{at_place, inside_tells, same_number}
 use Rattle.zarrs_chunk_plan.proofs.copy.stored_chunks.StoredChunks.has.Goals as goal
 
-pub returns-in-Some : goal.returns-in-Some
-unfolding is_stored
-returns-in-Some c =
-    let number = c.args.number in
-    let read : c.in-Some.word.now ≡ get_or c.args.self.now.bits.items (number / 64) 0 =
-    rw c.deref.ensures.value at (c.in-Some.ensures.lookup.3.1 0)
+pub returns-then-contains : goal.returns-then-contains
+unfolding has_mark
+returns-then-contains c =
+    let stored = c.args.self.now in
+    let start = stored.targets.start in
+    let shape = stored.targets.shape in
+    let chunk = c.args.chunk.now in
+    let inside = c.contains.ensures.0 c.if-contains.true in
+    let lies : lies_inside start shape chunk ≡ true = (inside_tells start shape chunk).1 inside in
+    let same = same_number stored.targets c.number_in.ensures.is_box chunk c.number_in.result (place_of start shape chunk) c.number_in.ensures.number
+    (at_place start shape chunk inside)
     in
-    c.has_bit.ensures ∙ ap (λ word. bit_at word (number % 64) == 1) read
+    c.has_number.ensures ∙ rw lies (ap (is_stored stored) same)
 
-pub returns-in-None : goal.returns-in-None
-unfolding is_stored
-returns-in-None c =
-    let number = c.args.number in
-    let itself : number / 64 ≤ number / 64 = omega arith in
-    let none = rw c.deref.ensures.value at (c.in-None.ensures.lookup.4 itself 0) in
-    sym (none_there c.args.self.now.bits.items number (sym none))
+not_true : (b : Bool) → (¬ IsTrue b) → b ≡ false
+not_true false isnt = refl
+not_true true isnt = absurd (isnt refl)
+
+pub returns-else-contains : goal.returns-else-contains
+unfolding has_mark
+returns-else-contains c =
+    let stored = c.args.self.now in
+    let start = stored.targets.start in
+    let shape = stored.targets.shape in
+    let chunk = c.args.chunk.now in
+    let out = c.if-contains.false in
+    rw (out, not_true (lies_inside start shape chunk) (λ lies. true≢false (sym (c.contains.ensures.1 ((inside_tells start shape chunk).0 lies)) ∙ out))) refl

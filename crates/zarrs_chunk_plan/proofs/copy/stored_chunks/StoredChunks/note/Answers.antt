@@ -6,7 +6,7 @@ pub returns-clause-noted : goal.returns-clause-noted
 returns-clause-noted g c = λ targets keys known.
     let ds = g.H.ChunkGridTraits.dimensions c.args.target.now.grid in
     let K = g.F.ChunkKeyEncodingTraits.is_key c.args.target.now.encoding in
-    knows_next ds K targets keys c.args.key.now c.args.self.now known c.chunk_in-2.ensures.is_box c.in_ok-written.written c.in_ok-written.ensures.found
+    knows_next ds K targets keys c.args.key.now c.args.self.now known c.in_ok-written.written c.in_ok-written.ensures.found
     c.match-written.self
     (elim c.match-written.branch [
       | in-Some w ↦ rw (w.in-Some.is, w.self-is, ← w.deref.ensures.value) w.mark.ensures
