@@ -2,6 +2,7 @@
 use Rattle.std.proofs.Common.{◌≡◌, ◌∙◌, ℕ, zero, suc, ◌<◌, ◌≤◌, Bool, true, false, cond, List, [], ◌∷◌, ◌++◌, Option, Some, None, append_assoc, refl, ap, sym, arith}
 use Rattle.std.proofs.Common.{length}
 use Rattle.std.proofs.lemmas.Bool.Decides.{nat_tests}
+use Rattle.std.specs.List.{AllByRecursion}
 use Rattle.streams.specs.OneLine.{IsOneLine, escape, is_control, line_break, line_feeds, line_of, long_break, unbroken, unbroken_behind, written}
 
 pub line_feeds-append : (xs ys : List ℕ) → line_feeds xs ≡ 0 → line_feeds ys ≡ 0 → line_feeds (xs ++ ys) ≡ 0
@@ -32,6 +33,21 @@ none_in zero (a ∷ bytes) =
 
 pub is_one_line : (text : List ℕ) → IsOneLine (line_of text)
 is_one_line text = (unbroken text, none_in 0 text, refl)
+
+-- ---- printable characters of ASCII
+
+abbrev pub IsPrintable : ℕ → Type 0
+IsPrintable b = (32 ≤ b) × (b < 127)
+
+stays : (a : ℕ) → IsPrintable a → (bytes : List ℕ) → written a (line_break a bytes) ≡ (a ∷ [], 0)
+stays a plain [] = grind (arith, nat_tests)
+stays a plain (b ∷ []) = grind (arith, nat_tests)
+stays a plain (b ∷ c ∷ bytes) = grind (arith, nat_tests)
+
+-- they stay as they are
+pub all_stay : (xs ys : List ℕ) → AllByRecursion IsPrintable xs → unbroken (xs ++ ys) ≡ xs ++ unbroken ys
+all_stay [] ys all = refl
+all_stay (a ∷ xs) ys all = rw (stays a all.0 (xs ++ ys)) (ap (λ bytes. a ∷ bytes) (all_stay xs ys all.1))
 
 -- ---- a text in pieces, of which the first ends with a byte that is a character
 
