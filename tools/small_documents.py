@@ -154,13 +154,13 @@ class Array:
         return [self.random.choice([0, of // 2, of - 1]), of]
 
     def bound(self):
-        """A bound on the elements that a worker holds, near the sizes of the greatest chunks of both arrays."""
-        chunks = [
+        """A bound on the elements that a worker holds: near twice the greatest chunk of both arrays, with which tasks of one chunk fit, or any."""
+        greatest = max(
             math.prod(min(max(edge for edge, _ in d.pairs), d.size) for d in storage.grid.dimensions)
             for storage in (self.source, self.target)
-        ]
-        both, greater = sum(chunks), max(chunks)
-        return min(self.random.choice([both, both - 1, greater + power(self.random, 20), greater * power(self.random, 4), GREATEST]), GREATEST)
+        )
+        enough = 2 * greatest
+        return min(self.random.choice([enough, enough - 1, greatest + power(self.random, 20), enough * power(self.random, 4), GREATEST]), GREATEST)
 
     def tasks(self):
         """Members by which a copy asks for its tasks."""
