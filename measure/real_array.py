@@ -14,8 +14,8 @@ Each way prints seconds, how long the disk takes after it, and processor seconds
 files that a process opens to read, and those that it renames to their keys. The peak of resident memory and the bytes that are read are
 the kernel's.
 
-The script compares each result with the source, bit by bit. It ends with status 1 if an element differs, if a worker reads or writes another number
-of chunks than the plan's counts say, or if a worker takes more memory than MOST elements and ROOM MB.
+The script compares each result with the source, bit by bit. It ends with status 1 if an element differs, or if a worker reads or writes another
+number of chunks than counted. It also does if a worker takes more memory than MOST elements and ROOM MB.
 """
 import argparse
 import ctypes

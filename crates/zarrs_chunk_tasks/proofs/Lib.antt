@@ -5,6 +5,7 @@ mod CountsOfEach
 mod GroupBoxes
 mod GroupCounts
 mod GroupSizes
+mod EqualSteps
 mod ExactStages
 mod FewPieces
 mod Grouped

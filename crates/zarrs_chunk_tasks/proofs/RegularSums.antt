@@ -1,24 +1,25 @@
--- Groups of the chunks of a regular dimension are alike, as far as the chunks of another regular dimension are.
-use Rattle.std.proofs.Common.{◌≡◌, ◌∙◌, ℕ, zero, suc, ◌+◌, ◌-◌, ◌*◌, ◌/◌, ◌%◌, ◌<◌, ◌≤◌, IsTrue, List, map, max, min, refl, ap, ap₂, subst, sym, arith, ◌++◌, ◌∷◌}
+-- What is counted of groups of the chunks of a regular dimension, beside another regular dimension.
+use Rattle.std.proofs.Common.{◌≡◌, ◌∙◌, ℕ, zero, suc, ◌+◌, ◌-◌, ◌*◌, ◌/◌, ◌<◌, ◌≤◌, IsTrue, List, map, max, min, refl, ap, ap₂, subst, sym, arith, ◌++◌, ◌∷◌}
 use Rattle.std.proofs.Common.{⊎_elim}
-use Rattle.std.proofs.Math.Nat.{add-mul, add-mul-div_left, div-add-mod, div-div-eq-div-mul, div-mul-le_self, mul-le-mul_right, mul_comm, suc-mul}
+use Rattle.std.proofs.Math.Nat.{add-mul, div-add-mod, div-div-eq-div-mul, div-mul-le_self, mul-le-mul_right, mul_comm}
 use Rattle.std.proofs.lemmas.Bool.{cases_lt}
-use Rattle.std.proofs.lemmas.Nat.{div-mul-add}
+use Rattle.std.proofs.lemmas.Nat.{div-mul-add, le-div, mod_below}
 use Rattle.std.proofs.lemmas.List.Sums.{fold-append, sum_by-append}
-use Rattle.std.specs.List.{range_with_len, sum}
+use Rattle.std.specs.List.{AllByRecursion, range_with_len, sum}
 use Rattle.zarrs_chunk_base.specs.Dimension.{Dimension, Holds, IsChain}
 use Rattle.zarrs_chunk_base.specs.Greatest.{greatest}
-use Rattle.zarrs_chunk_axes.specs.Along.{IsRegular}
+use Rattle.zarrs_chunk_axes.specs.Along.{Along, IsRange, IsRegular}
 use Rattle.zarrs_chunks.proofs.Chains.{no_later}
 use Rattle.zarrs_chunk_plan.proofs.MetChunks.{met_at_most, met_is}
 use Rattle.zarrs_chunk_plan.proofs.Products.{greatest_from, greatest_of}
-use Rattle.zarrs_chunk_plan.specs.seen.Sources.{TakesSome, met, taken, taken_from}
+use Rattle.zarrs_chunk_plan.specs.seen.Sources.{met, taken, taken_from}
+use Rattle.zarrs_chunk_tasks.specs.declared.groups_along.Regular.{Regular}
 use Rattle.zarrs_chunk_tasks.specs.declared.groups_along.Sums.{Sums}
-use Rattle.zarrs_chunk_tasks.specs.Counts.{greatest_of_128}
-use Rattle.zarrs_chunk_tasks.specs.seen.Counts.{AreAlike, AreSums, AreTaking, indices, of_group, of_groups, whole}
+use Rattle.zarrs_chunk_tasks.specs.seen.Counts.{AreJoined, AreRegular, AreSums, AreTaking, indices, of_group, of_groups, whole}
+use Rattle.zarrs_chunk_tasks.specs.seen.Multiples.{in_range, in_ranges}
 use Rattle.zarrs_chunk_tasks.specs.seen.Grouped.{grouped}
 use Rattle.zarrs_chunk_tasks.proofs.Grouped.{grouped_chain, holds_its_chunks, next_group}
-use Rattle.zarrs_chunk_tasks.proofs.SumsAlong.{greatest_more, sum_more, whole_is}
+use Rattle.zarrs_chunk_tasks.proofs.SumsAlong.{greatest_more, one_of, sum_more, whole_is}
 
 -- ---- a regular dimension
 
@@ -70,116 +71,6 @@ grouped_regular d b k chain some any regular i below =
     subst (λ t. Holds (grouped d k) t i) joined
     ((holds_its_chunks d k chain any (i / b / k) i).0 (record { chunk = i / b; holds = regular i below; joined = refl }))
 
--- ---- groups that are alike
-
--- Behind a group that takes some of a range there are so many that take all of themselves. They end before the chunk of the other dimension that holds the
--- last index of its range.
-module _ (d other : Dimension) (k b a at size group first last many : ℕ) (chain : IsChain d) (also : IsChain other) (any : 0 < k) (some : 0 < b)
-    (some_other : 0 < a) (regular : IsRegular d b) (other_regular : IsRegular other a) (takes : TakesSome (grouped d k) at size group)
-    (within : at + size ≤ d.array_size) (other_within : first + size ≤ other.array_size) (some_size : 0 < size) (before : last * a ≤ first + (size - 1))
-    (counted : (group + 1 + many) * (b * k) ≤ at + (last * a - first)) where
-  abbrev g : Dimension
-  g = grouped d k
-
-  abbrev long : ℕ
-  long = b * k
-
-  some_long : 0 < long
-  some_long = let one = mul-le-mul_right {m = 1} {n = b} k some in omega arith
-
-  g_chain : IsChain g
-  g_chain = grouped_chain d k chain any
-
-  g_regular : IsRegular g long
-  g_regular = grouped_regular d b k chain some any regular
-
-  up : (j : ℕ) → j < many → (group + 1 + j + 1) * long ≤ at + (last * a - first)
-  up j less = let le = mul-le-mul_right {m = group + 1 + j + 1} {n = group + 1 + many} long (omega arith) in omega (arith, le, counted)
-
-  from : (j : ℕ) → j < many → at ≤ (group + 1 + j) * long
-  from j less =
-      let first_up = up 0 (omega arith) in
-      let zero_step : group + 1 + 0 ≡ group + 1 = omega arith in
-      let next = next_group (group + 1) long in
-      let size_is = ap (λ m. (m + 1) * long) zero_step in
-      let (_, taken_some) = takes in
-      let end = ends g long g_chain some_long g_regular group (omega (arith, first_up, next, size_is, some_long)) in
-      let le = mul-le-mul_right {m = group + 1} {n = group + 1 + j} long (omega arith) in
-      omega (arith, taken_some, end, le)
-
-  all_of : (j : ℕ) → j < many → (taken_from g at (group + 1 + j) ≡ (group + 1 + j) * long) × (taken g at size (group + 1 + j) ≡ long)
-      × ((group + 1 + j + 1) * long ≤ min (g.end (group + 1 + j)) (at + size))
-  all_of j less = takes_all g long g_chain some_long g_regular at size (group + 1 + j) (from j less) (omega (arith, up j less)) within
-
-  -- where in the other dimension what the group takes begins
-  abbrev x : ℕ → ℕ
-  x j = first + ((group + 1 + j) * long - at)
-
-  ends_before : (j : ℕ) → j < many → x j + long ≤ last * a
-  ends_before j less = let next = next_group (group + 1 + j) long in omega (arith, up j less, from j less, next, some_long)
-
-  low : (j : ℕ) → j < many → Holds other (x j / a) (x j)
-  low j less = other_regular (x j) (omega (arith, ends_before j less))
-
-  high : (j : ℕ) → j < many → Holds other ((x j + (long - 1)) / a) (x j + (long - 1))
-  high j less = other_regular (x j + (long - 1)) (omega (arith, ends_before j less, some_long))
-
-  what_is : (count : Dimension → ℕ → ℕ → ℕ) (j : ℕ) → j < many → of_group count other g first at size (group + 1 + j) ≡ count other (x j) long
-  what_is count j less = let (starts_at, takes_long, _) = all_of j less in ap₂ (λ s n. count other (first + (s - at)) n) starts_at takes_long
-
-  met_here : (j : ℕ) (less : j < many) → of_group met other g first at size (group + 1 + j) ≡ suc ((x j + (long - 1)) / a) - x j / a
-  met_here j less = what_is met j less ∙ met_is other also (x j / a) ((x j + (long - 1)) / a) (x j) long (low j less) (high j less)
-
-  later : (j : ℕ) → j + a < many → x (j + a) ≡ x j + a * long
-  later j less =
-      let step : group + 1 + (j + a) ≡ group + 1 + j + a = omega arith in
-      let size_is = ap (λ m. m * long) step in
-      let both = add-mul (group + 1 + j) a long in
-      omega (arith, size_is, both, from j (omega arith))
-
-  pub are_alike : AreAlike k at size (group + 1) first d other many a long
-  are_alike = record {
-    take = λ j less. (all_of j less).1;
-    repeat = λ j less.
-        let is = later j less in
-        let begin = ap (λ m. m / a) is ∙ add-mul-div_left (x j) long some_other in
-        let end_is : x (j + a) + (long - 1) ≡ x j + (long - 1) + a * long = omega (arith, is) in
-        let end = ap (λ m. m / a) end_is ∙ add-mul-div_left (x j + (long - 1)) long some_other in
-        omega (arith, met_here (j + a) less, met_here j (omega arith), begin, end);
-    whole = λ j less.
-        let lo = x j / a in
-        let hi = (x j + (long - 1)) / a in
-        let is = what_is whole j less ∙ whole_is other also lo hi (x j) long (low j less) (high j less) in
-        let order = no_later other also lo hi (x j) (x j + (long - 1)) (omega arith) (low j less) (high j less) in
-        let near = div-mul-le_self (x j + (long - 1)) a in
-        let near_low = div-mul-le_self (x j) a in
-        let inside : hi + 1 ≤ last =
-        ⊎_elim (λ (below : hi < last). omega arith)
-        (λ (past : last ≤ hi). absurd (omega (arith, mul-le-mul_right a past, near, ends_before j less, some_long))) (cases_lt hi last)
-        in
-        let ended = mul-le-mul_right a inside in
-        let (_, start) = starts other a also some_other other_regular lo (omega (arith, near_low, ends_before j less, before, other_within, some_size)) in
-        let end = ends other a also some_other other_regular hi (omega (arith, ended, before, other_within, some_size)) in
-        let count = suc hi - lo in
-        let split : lo + count ≡ hi + 1 = omega (arith, order) in
-        let both = ap (λ m. m * a) (sym split) ∙ add-mul lo count a in
-        is ∙ omega (arith, start, end, both) ∙ ap (λ m. m * a) (sym (met_here j less));
-    few = λ j less.
-        let at_most = met_at_most other also (x j / a) ((x j + (long - 1)) / a) (x j) long some_long (low j less) (high j less) in
-        omega (arith, what_is met j less, at_most);
-    reach = λ end same.
-        let less : end < many = omega (arith, same) in
-        let (_, _, reached) = all_of end less in
-        let (begin, _, _) = all_of 0 (omega (arith, less)) in
-        let step : group + 1 + 0 ≡ group + 1 = omega arith in
-        let size_is = ap (λ m. m * long) step in
-        let start_is = ap (taken_from g at) step in
-        let both = add-mul (group + 1) many long in
-        let sum_is : group + 1 + many ≡ group + 1 + end + 1 = omega (arith, same) in
-        let product_is = ap (λ m. m * long) sum_is in
-        omega (arith, reached, begin, size_is, start_is, both, product_is);
-  }
-
 -- ---- sums of parts
 
 -- a range cut in two
@@ -216,15 +107,6 @@ sums_same f g a b =
     by_one (λ n. ((j : ℕ) → j < n → f (a + j) ≡ g (b + j)) → sum (map f (range_with_len a n)) ≡ sum (map g (range_with_len b n))) (λ same. refl)
     (λ n rest same. omega (arith, sum_more f a n, sum_more g b n, rest (λ j less. same j (omega arith)), same n (omega arith)))
 
-sum_times : (f g : ℕ → ℕ) (a n times : ℕ) → ((j : ℕ) → j < n → f (a + j) ≡ g (a + j) * times)
-    → sum (map f (range_with_len a n)) ≡ sum (map g (range_with_len a n)) * times
-sum_times f g a n times =
-    by_one (λ n. ((j : ℕ) → j < n → f (a + j) ≡ g (a + j) * times) → sum (map f (range_with_len a n)) ≡ sum (map g (range_with_len a n)) * times)
-    (λ same. omega arith)
-    (λ n rest same.
-    let product_is = ap (λ m. m * times) (sum_more g a n) ∙ add-mul (sum (map g (range_with_len a n))) (g (a + n)) times in
-    omega (arith, sum_more f a n, rest (λ j less. same j (omega arith)), same n (omega arith), product_is)) n
-
 sum_at_most : (f : ℕ → ℕ) (a n most : ℕ) → ((j : ℕ) → j < n → f (a + j) ≤ most) → sum (map f (range_with_len a n)) ≤ n * most
 sum_at_most f a n most =
     by_one (λ n. ((j : ℕ) → j < n → f (a + j) ≤ most) → sum (map f (range_with_len a n)) ≤ n * most) (λ few. omega arith)
@@ -242,146 +124,381 @@ greatest_is f a n long some same =
     in
     omega (arith, most, least some)
 
--- numbers that repeat, added up
-sum_repeats : (f : ℕ → ℕ) (a period times rest : ℕ) → ((j : ℕ) → j + period < times * period + rest → f (a + (j + period)) ≡ f (a + j))
-    → sum (map f (range_with_len a (times * period + rest)))
-    ≡ times * sum (map f (range_with_len a period)) + sum (map f (range_with_len a rest))
-sum_repeats f a period zero rest same = let none : 0 * period + rest ≡ rest = omega arith in ap (λ n. sum (map f (range_with_len a n))) none ∙ omega arith
-sum_repeats f a period (suc times) rest same =
-    let more : suc times * period ≡ period + times * period = suc-mul times period ∙ omega arith in
-    let all : suc times * period + rest ≡ period + (times * period + rest) = omega (arith, more) in
-    let parts = ap (λ n. sum (map f (range_with_len a n))) all ∙ sum_parts f a period (times * period + rest) in
-    let shifted = sums_same f f (a + period) a (times * period + rest)
-    (λ j less. let place : a + period + j ≡ a + (j + period) = omega arith in ap f place ∙ same j (omega (arith, all))) in
-    let before = sum_repeats f a period times rest (λ j less. same j (omega (arith, all))) in
-    let product_is = suc-mul times (sum (map f (range_with_len a period))) in
-    omega (arith, parts, shifted, before, product_is)
+-- numbers of two lists that differ in equal steps, added up
+sum_both : (f g : ℕ → ℕ) (begin n times less more : ℕ) → ((j : ℕ) → j < n → f (begin + j) + less ≡ g (begin + j) * times + more)
+    → sum (map f (range_with_len begin n)) + n * less ≡ sum (map g (range_with_len begin n)) * times + n * more
+sum_both f g begin n times less more =
+    by_one
+    (λ n. ((j : ℕ) → j < n → f (begin + j) + less ≡ g (begin + j) * times + more)
+    → sum (map f (range_with_len begin n)) + n * less ≡ sum (map g (range_with_len begin n)) * times + n * more)
+    (λ same. omega arith)
+    (λ n rest same.
+    let product_is = ap (λ m. m * times) (sum_more g begin n) ∙ add-mul (sum (map g (range_with_len begin n))) (g (begin + n)) times in
+    omega (
+      arith,
+      sum_more f begin n,
+      rest (λ j less. same j (omega arith)),
+      same n (omega arith),
+      product_is,
+      next_group n less,
+      next_group n more,
+    )) n
 
--- ---- the sums of all groups
+sum_at_least : (f : ℕ → ℕ) (begin n : ℕ) → ((j : ℕ) → j < n → 0 < f (begin + j)) → n ≤ sum (map f (range_with_len begin n))
+sum_at_least f begin =
+    by_one (λ n. ((j : ℕ) → j < n → 0 < f (begin + j)) → n ≤ sum (map f (range_with_len begin n))) (λ some. omega arith)
+    (λ n rest some. omega (arith, sum_more f begin n, rest (λ j less. some j (omega arith)), some n (omega arith)))
 
-module _ (d other : Dimension) (k at size first_chunk last_chunk group groups first many period long : ℕ) (chain : IsChain d) (some : 0 < k)
-    (taking : AreTaking k at size first_chunk last_chunk group groups d) (some_alike : 0 < many) (fewer : many + 1 ≤ groups) (some_period : 0 < period)
-    (small_period : period ≤ greatest) (alike : AreAlike k at size (group + 1) first d other many period long) where
-  abbrev grp : Dimension
-  grp = grouped d k
+-- ---- the groups between the first one and the last one
 
-  abbrev left : ℕ
-  left = groups - (many + 1)
+-- each of them takes so many indices, from the second group's start on
+pub record AreFull (at size group groups long : ℕ) : Type 0 where
+  pub some : 0 < long
+  pub begins : at ≤ (group + 1) * long
+  pub within : (group + 1) * long < at + size
+  pub fits : ((group + 1) * long - at) + (groups - 2) * long ≤ size
+  pub long_fits : long ≤ size
 
-  -- a group starts where the one before it ends
-  start_after : (t : ℕ) → group ≤ t → t + 1 < group + groups → grp.end t ≤ taken_from grp at (t + 1)
-  start_after t low below =
-      let (has, _) = taking.take (t + 1) (omega arith) below in
-      let (_, gap) = (grouped_chain d k chain some).no_gap t has in
-      omega (arith, gap)
+-- then where they begin isn't cut off
+pub start_is : (at size group groups first long next begin start : ℕ) → AreFull at size group groups long → at + size ≤ greatest → first + size ≤ greatest
+    → group + groups ≤ greatest → 2 < groups → next ≡ min (group + 1) greatest → begin ≡ min (next * long) greatest
+    → start ≡ min (first + (begin - at)) greatest → start ≡ first + ((group + 1) * long - at)
+start_is at size group groups first long next begin start full fits other_fits groups_fit three next_is begin_is is =
+    let one : next ≡ group + 1 = omega (arith, next_is, groups_fit, three) in
+    omega (arith, is, begin_is, ap (λ n. n * long) one, full.begins, full.within, fits, other_fits)
 
-  module _ (head once rest tail : Sums) (heads : AreSums k at size group 1 first d other head) (onces : AreSums k at size (group + 1) period first d other once)
-      (rests : AreSums k at size (group + 1) (many % period) first d other rest) (tails : AreSums k at size (group + (many + 1)) left first d other tail) where
-    abbrev all_alike : ℕ
-    all_alike = many / period * once.chunks + rest.chunks
+module _ (d : Dimension) (k b long at size group groups first_chunk last_chunk : ℕ) (chain : IsChain d) (any : 0 < k) (some : 0 < b) (long_is : long ≡ b * k)
+    (regular : IsRegular d b) (taking : AreTaking k at size first_chunk last_chunk group groups d) (three : 2 < groups) where
+  abbrev g : Dimension
+  g = grouped d k
 
-    parts_are : groups ≡ 1 + (many + left)
-    parts_are = omega (arith, fewer)
+  abbrev many : ℕ
+  many = groups - 2
 
-    alike_chunks : sum (of_groups met other grp first at size (group + 1) many) ≡ all_alike
-    alike_chunks =
-        let split : many / period * period + many % period ≡ many = omega (arith, div-add-mod many period, mul_comm period (many / period)) in
-        ap (λ n. sum (of_groups met other grp first at size (group + 1) n)) (sym split)
-        ∙ sum_repeats (of_group met other grp first at size) (group + 1) period (many / period) (many % period)
-        (λ j less. alike.repeat j (omega (arith, split))) ∙ ap₂ (λ m n. many / period * m + n) (sym onces.chunks) (sym rests.chunks)
+  some_long : 0 < long
+  some_long = let one = mul-le-mul_right {m = 1} {n = b} k some in omega (arith, long_is)
 
-    alike_elements : sum (of_groups whole other grp first at size (group + 1) many) ≡ all_alike * period
-    alike_elements =
-        sum_times (of_group whole other grp first at size) (of_group met other grp first at size) (group + 1) many period alike.whole
-        ∙ ap (λ n. n * period) alike_chunks
+  g_chain : IsChain g
+  g_chain = grouped_chain d k chain any
 
-    abbrev of_parts : (op : ℕ → ℕ → ℕ) → (r : List ℕ → ℕ) → (f : ℕ → ℕ) → ℕ
-    of_parts op r f =
-        op (r (map f (range_with_len group 1)))
-        (op (r (map f (range_with_len (group + 1) many))) (r (map f (range_with_len (group + (many + 1)) left))))
+  g_regular : IsRegular g long
+  g_regular = subst (IsRegular g) (sym long_is) (grouped_regular d b k chain some any regular)
 
-    in_three : (op : ℕ → ℕ → ℕ) (r : List ℕ → ℕ)
-        → ((f : ℕ → ℕ) (begin one other : ℕ)
-        → r (map f (range_with_len begin (one + other))) ≡ op (r (map f (range_with_len begin one))) (r (map f (range_with_len (begin + one) other))))
-        → (f : ℕ → ℕ) → r (map f (range_with_len group groups)) ≡ of_parts op r f
-    in_three op r cut f =
-        let place : group + 1 + many ≡ group + (many + 1) = omega arith in
-        ap (λ n. r (map f (range_with_len group n))) parts_are ∙ cut f group 1 (many + left)
-        ∙ ap (op (r (map f (range_with_len group 1))))
-        (cut f (group + 1) many left ∙ ap (λ t. op (r (map f (range_with_len (group + 1) many))) (r (map f (range_with_len t left)))) place)
+  -- a group that takes some begins within the range
+  begins : (t : ℕ) → group ≤ t → t < group + groups → t * long < at + size
+  begins t low high =
+      let (has, taken_some) = taking.take t low high in
+      let i = taken_from g at t in
+      let order = no_later g g_chain t (i / long) i i (omega arith) (record { chunk = has; from = omega arith; below = omega (arith, taken_some) })
+      (g_regular i (omega (arith, taken_some, taking.over.within)))
+      in
+      let le = mul-le-mul_right long order in
+      let below = div-mul-le_self i long in
+      omega (arith, le, below, taken_some)
 
-    -- none takes an index that another takes
-    alike_few : all_alike ≤ many * long
-    alike_few =
-        let few = sum_at_most (of_group met other grp first at size) (group + 1) many long alike.few in omega (arith, few, alike_chunks)
+  up : (j : ℕ) → j < many → (group + 1 + j + 1) * long < at + size
+  up j less = begins (group + 1 + j + 1) (omega arith) (omega (arith, less, three))
 
-    before_tail : head.chunks + all_alike + taken_from grp at group ≤ min (grp.end (group + many)) (at + size)
-    before_tail =
-        let one : group + 0 ≡ group = omega arith in
-        let last : group + 1 + (many - 1) ≡ group + many = omega arith in
-        omega (
-          arith,
-          heads.few 0 refl,
-          ap grp.end one,
-          start_after group (omega arith) (omega (arith, some_alike)),
-          alike_few,
-          alike.reach (many - 1) (omega arith),
-          ap grp.end last,
-        )
+  behind_first : at ≤ (group + 1) * long
+  behind_first =
+      let (_, taken_some) = taking.take group (omega arith) (omega (arith, three)) in
+      let end = ends g long g_chain some_long g_regular group (omega (arith, begins (group + 1) (omega arith) (omega (arith, three)), taking.over.within)) in
+      omega (arith, taken_some, end)
 
-    few_in_all : (last : ℕ) → groups ≡ last + 1 → head.chunks + all_alike + tail.chunks + taken_from grp at group ≤ min (grp.end (group + last)) (at + size)
-    few_in_all last same =
-        ⊎_elim
-        (λ (some_left : 0 < left).
-        let place : group + (many + 1) + (left - 1) ≡ group + last = omega (arith, same) in
-        let after : group + many + 1 ≡ group + (many + 1) = omega arith in
-        omega (
-          arith,
-          before_tail,
-          tails.few (left - 1) (omega arith),
-          ap grp.end place,
-          start_after (group + many) (omega arith) (omega (arith, some_left)),
-          ap (taken_from grp at) after,
-        ))
-        (λ (none : left ≤ 0).
-        let place : group + many ≡ group + last = omega (arith, same, none) in
-        let nothing : left ≡ 0 = omega arith in
-        let no_chunks : tail.chunks ≡ 0 = tails.chunks ∙ ap (λ n. sum (of_groups met other grp first at size (group + (many + 1)) n)) nothing in
-        omega (arith, before_tail, no_chunks, ap grp.end place))
-        (cases_lt 0 left)
+  place : (j : ℕ) → (group + 1 + j) * long ≡ (group + 1) * long + j * long
+  place j = add-mul (group + 1) j long
 
-    few : head.chunks + all_alike + tail.chunks ≤ size
-    few = omega (arith, few_in_all (groups - 1) (omega (arith, fewer)), taking.over.some)
+  -- a group between takes all of itself
+  all_of : (j : ℕ) → j < many → (taken_from g at (group + 1 + j) ≡ (group + 1 + j) * long) × (taken g at size (group + 1 + j) ≡ long)
+      × ((group + 1 + j + 1) * long ≤ min (g.end (group + 1 + j)) (at + size))
+  all_of j less =
+      takes_all g long g_chain some_long g_regular at size (group + 1 + j) (omega (arith, place j, behind_first)) (omega (arith, up j less)) taking.over.within
 
-    alike_small : all_alike * period ≤ all_alike * greatest
-    alike_small =
-        let le = mul-le-mul_right all_alike small_period in omega (arith, le, mul_comm all_alike period, mul_comm all_alike greatest)
+  ends_within : (j : ℕ) → j < many → ((group + 1) * long - at) + j * long + long < size
+  ends_within j less = let next = next_group (group + 1 + j) long in omega (arith, up j less, next, place j, behind_first)
 
-    elements_small : head.elements + all_alike * period + tail.elements ≤ (head.chunks + all_alike + tail.chunks) * greatest
-    elements_small = omega (arith, heads.small, tails.small, alike_small)
+  pub are_full : AreFull at size group groups long
+  are_full =
+      let last = ends_within (many - 1) (omega (arith, three)) in
+      let next = next_group (many - 1) long in
+      let one : many - 1 + 1 ≡ many = omega (arith, three) in
+      record {
+        some = some_long;
+        begins = behind_first;
+        within = begins (group + 1) (omega arith) (omega (arith, three));
+        fits = omega (arith, last, next, ap (λ n. n * long) one);
+        long_fits = omega (arith, last);
+      }
 
-    pub sums_are : (sums : Sums) (chunks : ℕ) → chunks ≡ min (min (once.chunks * (many / period)) greatest + rest.chunks) greatest
-        → sums.largest ≡ max (max head.largest long) tail.largest → sums.chunks ≡ min (min (head.chunks + chunks) greatest + tail.chunks) greatest
-        → sums.elements ≡ min (min (head.elements + min (chunks * period) greatest_of_128) greatest_of_128 + tail.elements) greatest_of_128
-        → AreSums k at size group groups first d other sums
-    sums_are sums chunks is largest in_all elements =
-        let alike_is : chunks ≡ all_alike = omega (arith, is, few, taking.over.fits, mul_comm once.chunks (many / period)) in
-        let product_is = ap (λ n. n * period) alike_is in
-        let chunks_are : sums.chunks ≡ head.chunks + all_alike + tail.chunks = omega (arith, in_all, alike_is, few, taking.over.fits) in
-        let elements_are : sums.elements ≡ head.elements + all_alike * period + tail.elements =
-        omega (arith, elements, product_is, elements_small, few, taking.over.fits)
-        in
-        record {
-          largest = largest
-              ∙ omega (
-                arith,
-                heads.largest,
-                tails.largest,
-                in_three max greatest_of greatest_parts (of_group indices other grp first at size),
-                greatest_is (of_group indices other grp first at size) (group + 1) many long some_alike alike.take,
-              );
-          chunks = chunks_are ∙ omega (arith, heads.chunks, tails.chunks, alike_chunks, in_three ◌+◌ sum sum_parts (of_group met other grp first at size));
-          elements = elements_are ∙ omega (arith, heads.elements, tails.elements, alike_elements, in_three ◌+◌ sum sum_parts (of_group whole other grp first at size));
-          few = λ last same. omega (arith, chunks_are, few_in_all last same);
-          small = omega (arith, chunks_are, elements_are, elements_small);
-        }
+  module _ (other : Dimension) (a first : ℕ) (also : IsChain other) (some_other : 0 < a) (other_regular : IsRegular other a)
+      (other_within : first + size ≤ other.array_size) where
+    -- where in the other dimension the second group begins
+    abbrev start : ℕ
+    start = first + ((group + 1) * long - at)
+
+    abbrev x : ℕ → ℕ
+    x j = start + j * long
+
+    below : (j : ℕ) → j < many → x j + long < first + size
+    below j less = omega (arith, ends_within j less)
+
+    low : (j : ℕ) → j < many → Holds other (x j / a) (x j)
+    low j less = other_regular (x j) (omega (arith, below j less, other_within))
+
+    high : (j : ℕ) → j < many → Holds other ((x j + (long - 1)) / a) (x j + (long - 1))
+    high j less = other_regular (x j + (long - 1)) (omega (arith, below j less, other_within, some_long))
+
+    what_is : (count : Dimension → ℕ → ℕ → ℕ) (j : ℕ) → j < many → of_group count other g first at size (group + 1 + j) ≡ count other (x j) long
+    what_is count j less =
+        let (starts_at, takes_long, _) = all_of j less in
+        let here : first + (taken_from g at (group + 1 + j) - at) ≡ x j = omega (arith, starts_at, place j, behind_first) in
+        ap₂ (λ s n. count other s n) here takes_long
+
+    met_here : (j : ℕ) (less : j < many) → of_group met other g first at size (group + 1 + j) ≡ in_range a long start j
+    met_here j less = what_is met j less ∙ met_is other also (x j / a) ((x j + (long - 1)) / a) (x j) long (low j less) (high j less)
+
+    few_here : (j : ℕ) → j < many → of_group met other g first at size (group + 1 + j) ≤ long
+    few_here j less =
+        let at_most = met_at_most other also (x j / a) ((x j + (long - 1)) / a) (x j) long some_long (low j less) (high j less) in
+        omega (arith, what_is met j less, at_most)
+
+    whole_here : (j : ℕ) (less : j < many)
+        → of_group whole other g first at size (group + 1 + j) ≡ other.end ((x j + (long - 1)) / a) - other.start (x j / a)
+    whole_here j less = what_is whole j less ∙ whole_is other also (x j / a) ((x j + (long - 1)) / a) (x j) long (low j less) (high j less)
+
+    chunks_are : sum (of_groups met other g first at size (group + 1) many) ≡ in_ranges a long start many
+    chunks_are =
+        sums_same (of_group met other g first at size) (in_range a long start) (group + 1) 0 many
+        (λ j less. let here : j ≡ 0 + j = omega arith in met_here j less ∙ ap (in_range a long start) here)
+
+    few : sum (of_groups met other g first at size (group + 1) many) ≤ many * long
+    few = sum_at_most (of_group met other g first at size) (group + 1) many long few_here
+
+    -- no chunk is met more often than there are indices
+    at_most : in_ranges a long start many ≤ first + size
+    at_most = omega (arith, few, chunks_are, are_full.fits)
+
+    -- ---- their elements
+
+    abbrev last : ℕ
+    last = (first + (size - 1)) / a
+
+    module _ (last_start last_edge before : ℕ) (range : IsRange other last (last_start, last_edge)) (is : before ≡ min ((last_start - start) / long) many) where
+      abbrev touching : ℕ
+      touching = many - before
+
+      last_in : last * a ≤ first + (size - 1)
+      last_in = div-mul-le_self (first + (size - 1)) a
+
+      last_starts : last_start ≡ last * a
+      last_starts =
+          let (_, begin) = starts other a also some_other other_regular last (omega (arith, last_in, other_within, taking.over.some)) in
+          omega (arith, begin, range.start.start)
+
+      ends_before : (j : ℕ) → j < before → x j + long ≤ last * a
+      ends_before j less =
+          let le = mul-le-mul_right {m = j + 1} {n = (last_start - start) / long} long (omega (arith, less, is)) in
+          omega (arith, le, div-mul-le_self (last_start - start) long, next_group j long, last_starts, some_long)
+
+      ends_behind : (j : ℕ) → before ≤ j → j < many → last * a < x j + long
+      ends_behind j more less =
+          let le = mul-le-mul_right {m = (last_start - start) / long} {n = j} long (omega (arith, more, less, is)) in
+          let whole = div-add-mod (last_start - start) long in
+          omega (arith, le, whole, mul_comm long ((last_start - start) / long), mod_below (last_start - start) long some_long, last_starts)
+
+      -- chunks before the last one have the edge of the dimension
+      whole_before : (j : ℕ) → j < before
+          → of_group whole other g first at size (group + 1 + j) ≡ of_group met other g first at size (group + 1 + j) * a
+      whole_before j less =
+          let lo = x j / a in
+          let hi = (x j + (long - 1)) / a in
+          let among : j < many = omega (arith, less, is) in
+          let order = no_later other also lo hi (x j) (x j + (long - 1)) (omega arith) (low j among) (high j among) in
+          let near = div-mul-le_self (x j + (long - 1)) a in
+          let near_low = div-mul-le_self (x j) a in
+          let inside : hi + 1 ≤ last =
+          ⊎_elim (λ (below : hi < last). omega arith)
+          (λ (past : last ≤ hi). absurd (omega (arith, mul-le-mul_right a past, near, ends_before j less, some_long))) (cases_lt hi last)
+          in
+          let ended = mul-le-mul_right a inside in
+          let (_, begin) = starts other a also some_other other_regular lo (omega (arith, near_low, below j among, other_within, some_long)) in
+          let end = ends other a also some_other other_regular hi (omega (arith, ended, last_in, other_within, taking.over.some)) in
+          let split : lo + (suc hi - lo) ≡ hi + 1 = omega (arith, order) in
+          let both = ap (λ m. m * a) (sym split) ∙ add-mul lo (suc hi - lo) a in
+          whole_here j among ∙ omega (arith, begin, end, both) ∙ ap (λ m. m * a) (sym (met_here j among))
+
+      -- the last one has its own
+      whole_behind : (j : ℕ) → before ≤ j → j < many
+          → of_group whole other g first at size (group + 1 + j) + a ≡ of_group met other g first at size (group + 1 + j) * a + last_edge
+      whole_behind j more less =
+          let lo = x j / a in
+          let hi = (x j + (long - 1)) / a in
+          let order = no_later other also lo hi (x j) (x j + (long - 1)) (omega arith) (low j less) (high j less) in
+          let near_low = div-mul-le_self (x j) a in
+          let reaches = le-div last (x j + (long - 1)) a some_other (omega (arith, ends_behind j more less, some_long)) in
+          let within : hi ≤ last =
+          le-div hi (first + (size - 1)) a some_other (omega (arith, div-mul-le_self (x j + (long - 1)) a, below j less, some_long)) in
+          let same : hi ≡ last = omega (arith, reaches, within) in
+          let (_, begin) = starts other a also some_other other_regular lo (omega (arith, near_low, below j less, other_within, some_long)) in
+          let end : other.end hi ≡ last_start + last_edge = ap other.end same ∙ omega (arith, range.edge.edge, range.start.start) in
+          let split : lo + (suc hi - lo) ≡ last + 1 = omega (arith, order, same) in
+          let both = next_group last a in
+          let parts = ap (λ m. m * a) (sym split) ∙ add-mul lo (suc hi - lo) a in
+          let met_is_here = ap (λ m. m * a) (met_here j less) in
+          let no_later_start = mul-le-mul_right {m = lo} {n = last} a (omega (arith, order, same)) in
+          omega (arith, whole_here j less, end, begin, parts, both, met_is_here, last_starts, no_later_start)
+
+      touching_few : touching ≤ in_ranges a long start many
+      touching_few =
+          let least = sum_at_least (of_group met other g first at size) (group + 1) many
+          (λ j less.
+          let order = no_later other also (x j / a) ((x j + (long - 1)) / a) (x j) (x j + (long - 1)) (omega arith) (low j less) (high j less) in
+          omega (arith, met_here j less, order))
+          in
+          omega (arith, least, chunks_are)
+
+      elements_are : sum (of_groups whole other g first at size (group + 1) many) ≡ (in_ranges a long start many - touching) * a + touching * last_edge
+      elements_are =
+          let f = of_group whole other g first at size in
+          let m = of_group met other g first at size in
+          let split : many ≡ before + touching = omega (arith, is) in
+          let all = ap (λ n. sum (map f (range_with_len (group + 1) n))) split ∙ sum_parts f (group + 1) before touching in
+          let all_met = ap (λ n. sum (map m (range_with_len (group + 1) n))) split ∙ sum_parts m (group + 1) before touching in
+          let first_part = sum_both f m (group + 1) before a 0 0 (λ j less. omega (arith, whole_before j less)) in
+          let behind = sum_both f m (group + 1 + before) touching a a last_edge
+          (λ j less.
+          let here : group + 1 + (before + j) ≡ group + 1 + before + j = omega arith in
+          ap (λ t. f t + a) (sym here) ∙ whole_behind (before + j) (omega arith) (omega (arith, less)) ∙ ap (λ t. m t * a + last_edge) here)
+          in
+          let product_is = add-mul (sum (map m (range_with_len (group + 1) before))) (sum (map m (range_with_len (group + 1 + before) touching))) a in
+          let chunks = in_ranges a long start many in
+          let met_product = ap (λ n. n * a) (sym all_met ∙ chunks_are) in
+          let rest : (chunks - touching) + touching ≡ chunks = omega (arith, touching_few) in
+          let rest_product = add-mul (chunks - touching) touching a in
+          omega (arith, all, first_part, behind, product_is, met_product, rest_product, ap (λ n. n * a) rest)
+
+      -- they are what is counted
+      pub sums_are : (chunks : ℕ) → first + size ≤ greatest → chunks ≡ min (in_ranges a long start many) greatest
+          → (touching ≤ chunks)
+          × ((sums : Sums) → a ≤ greatest → last_edge ≤ greatest → sums.largest ≡ long → sums.chunks ≡ chunks
+          → sums.elements ≡ (chunks - touching) * a + touching * last_edge → AreSums k at size (group + 1) many first d other sums)
+      sums_are chunks fits is_cut =
+          let counted : chunks ≡ in_ranges a long start many = omega (arith, is_cut, at_most, fits) in
+          let less : touching ≤ chunks = omega (arith, touching_few, counted) in (
+            less,
+            λ sums small small_last largest chunks_is elements. record {
+              largest =
+                  largest
+                  ∙ sym (greatest_is (of_group indices other g first at size) (group + 1) many long (omega (arith, three)) (λ j less. (all_of j less).1));
+              chunks = chunks_is ∙ counted ∙ sym chunks_are;
+              elements = elements ∙ ap (λ n. (n - touching) * a + touching * last_edge) counted ∙ sym elements_are;
+              few = λ end same.
+                  let among : end < many = omega (arith, same) in
+                  let (_, _, reached) = all_of end among in
+                  let (begin, _, _) = all_of 0 (omega (arith, among)) in
+                  let step : group + 1 + 0 ≡ group + 1 = omega arith in
+                  let all : many * long ≡ (end + 1) * long = ap (λ n. n * long) same in
+                  omega (
+                    arith,
+                    chunks_is,
+                    counted,
+                    chunks_are,
+                    few,
+                    reached,
+                    begin,
+                    ap (taken_from g at) step,
+                    ap (λ n. n * long) step,
+                    place end,
+                    next_group (group + 1 + end) long,
+                    next_group end long,
+                    all,
+                  );
+              small =
+                  let one = mul-le-mul_right (chunks - touching) small in
+                  let other_part = mul-le-mul_right touching small_last in
+                  omega (
+                    arith,
+                    chunks_is,
+                    elements,
+                    one,
+                    other_part,
+                    less,
+                    mul_comm a (chunks - touching),
+                    mul_comm last_edge touching,
+                    mul_comm greatest touching,
+                    mul_comm greatest (chunks - touching),
+                  );
+            },
+          )
+
+-- along a dimension of a grid
+pub full_along : (ds others : List Dimension) (dimension k at size group groups first_chunk last_chunk : ℕ) (regular : Regular) → AllByRecursion IsChain ds
+    → AllByRecursion IsChain others → 0 < k → 2 < groups → Along (AreTaking k at size first_chunk last_chunk group groups) ds dimension
+    → Along (λ d. Along (λ s. AreRegular k d s regular) others dimension) ds dimension → AreFull at size group groups regular.long
+full_along ds others dimension k at size group groups first_chunk last_chunk regular chains also some three takes are_regular =
+    let it = one_of _ ds dimension chains takes in
+    let other = one_of _ others dimension also (it.at _ are_regular) in
+    let is = other.at _ (it.at _ are_regular) in
+    let (b, some_edge, regular_edge, long_is) = is.edge in
+    are_full it.d k b regular.long at size group groups first_chunk last_chunk it.chain some some_edge long_is regular_edge (it.at _ takes) three
+
+-- ---- groups and those after them
+
+pub joined_are : (d other : Dimension) (k at size group first_chunk last_chunk groups m n first : ℕ) → IsChain d → 0 < k
+    → AreTaking k at size first_chunk last_chunk group groups d → m + n ≤ groups → (one two sums : Sums) → AreSums k at size group m first d other one
+    → AreSums k at size (group + m) n first d other two → AreJoined one two sums → AreSums k at size group (m + n) first d other sums
+joined_are d other k at size group first_chunk last_chunk groups m n first chain some taking within one two sums ones twos joined =
+    let g = grouped d k in
+    -- a group starts where the one before it ends
+    let start_after : (t : ℕ) → group ≤ t → t + 1 < group + groups → g.end t ≤ taken_from g at (t + 1) =
+    λ t low below.
+    let (has, _) = taking.take (t + 1) (omega arith) below in
+    let (_, gap) = (grouped_chain d k chain some).no_gap t has in
+    omega (arith, gap)
+    in
+    let few : (last : ℕ) → m + n ≡ last + 1 → one.chunks + two.chunks + taken_from g at group ≤ min (g.end (group + last)) (at + size) =
+    λ last same.
+    ⊎_elim
+    (λ (some_behind : 0 < n).
+    let two_end : group + m + (n - 1) ≡ group + last = omega (arith, same, some_behind) in
+    let two_few = twos.few (n - 1) (omega (arith, some_behind)) in
+    ⊎_elim
+    (λ (some_before : 0 < m).
+    let after : group + (m - 1) + 1 ≡ group + m = omega (arith, some_before) in
+    omega (
+      arith,
+      two_few,
+      ap g.end two_end,
+      ones.few (m - 1) (omega (arith, some_before)),
+      start_after (group + (m - 1)) (omega arith) (omega (arith, within, some_before, some_behind)),
+      ap (taken_from g at) after,
+    ))
+    (λ (none : m ≤ 0).
+    let here : group + m ≡ group = omega (arith, none) in
+    let nothing : m ≡ 0 = omega (arith, none) in
+    let no_chunks : one.chunks ≡ 0 = ones.chunks ∙ ap (λ n. sum (of_groups met other g first at size group n)) nothing in
+    omega (arith, two_few, ap g.end two_end, no_chunks, ap (taken_from g at) here)) (cases_lt 0 m))
+    (λ (none : n ≤ 0).
+    let nothing : n ≡ 0 = omega (arith, none) in
+    let no_chunks : two.chunks ≡ 0 = twos.chunks ∙ ap (λ n. sum (of_groups met other g first at size (group + m) n)) nothing in
+    omega (arith, ones.few last (omega (arith, same, none)), no_chunks)) (cases_lt 0 n)
+    in
+    let fits : one.chunks + two.chunks ≤ size =
+    ⊎_elim
+    (λ (some_groups : 0 < m + n). omega (arith, few (m + n - 1) (omega (arith, some_groups)), taking.over.some))
+    (λ (none : m + n ≤ 0).
+    let no_groups : m ≡ 0 = omega (arith, none) in
+    let none_behind : n ≡ 0 = omega (arith, none) in
+    let no_chunks : one.chunks ≡ 0 = ones.chunks ∙ ap (λ n. sum (of_groups met other g first at size group n)) no_groups in
+    let no_more : two.chunks ≡ 0 = twos.chunks ∙ ap (λ n. sum (of_groups met other g first at size (group + m) n)) none_behind in
+    omega (arith, no_chunks, no_more)) (cases_lt 0 (m + n))
+    in
+    let chunks_are : sums.chunks ≡ one.chunks + two.chunks = omega (arith, joined.chunks, fits, taking.over.fits) in
+    let elements_are : sums.elements ≡ one.elements + two.elements = omega (arith, joined.elements, ones.small, twos.small, fits, taking.over.fits) in
+    record {
+      largest = joined.largest ∙ ap₂ max ones.largest twos.largest ∙ sym (greatest_parts (of_group indices other g first at size) group m n);
+      chunks = chunks_are ∙ ap₂ ◌+◌ ones.chunks twos.chunks ∙ sym (sum_parts (of_group met other g first at size) group m n);
+      elements = elements_are ∙ ap₂ ◌+◌ ones.elements twos.elements ∙ sym (sum_parts (of_group whole other g first at size) group m n);
+      few = λ last same. omega (arith, chunks_are, few last same);
+      small = omega (arith, chunks_are, elements_are, ones.small, twos.small);
+    }

@@ -5,6 +5,7 @@ pub mod GroupNumbers
 pub mod Grouped
 pub mod LargestChunk
 pub mod Least
+pub mod Multiples
 pub mod Sizes
 pub mod Stages
 pub mod Tasks

@@ -40,8 +40,8 @@ pub struct CountsAlong {
 /// Counts the [`tasks`](crate::tasks) of the copy of a region, along each dimension. Without dimensions the list is empty, and each product is 1: there is
 /// one task, of one element.
 ///
-/// It takes some look-ups for each group along each dimension by itself. Along a dimension that is regular in both arrays it takes no more than some for
-/// each element of a chunk's edge, however many groups there are.
+/// It takes some look-ups for each group along each dimension by itself. Along a dimension that is regular in both arrays it takes a few, however many
+/// groups there are.
 ///
 /// # Errors
 /// As of [`tasks`](crate::tasks).

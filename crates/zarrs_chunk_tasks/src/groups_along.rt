@@ -1,13 +1,14 @@
 //! The groups that hold some of a range of indices, and what is counted of them, along one dimension.
-ghost use Rattle.std.specs.Prelude.{◌≡◌, ◌+◌, ◌-◌, ◌<◌, ◌≤◌, IfOk, IfSome, Some, length};
+ghost use Rattle.std.specs.Prelude.{◌≡◌, ◌+◌, ◌-◌, ◌*◌, ◌<◌, ◌≤◌, IfOk, IfSome, Some, length};
 ghost use Rattle.std.specs.Int.NonZero.{non_zero_u64_get};
 ghost use Rattle.zarrs_chunk_axes.specs.Along.{Along};
 ghost use Rattle.zarrs_chunk_base.specs.Greatest.{greatest};
 ghost use Rattle.zarrs_chunk_plan.specs.seen.Sources.{TakesSome};
-ghost use Rattle.zarrs_chunk_tasks.specs.seen.Counts.{AreMetAlong, AreOver, GroupsAlike, GroupsSum, GroupsTake, IsTaken, PartSum};
+ghost use Rattle.zarrs_chunk_tasks.specs.seen.Counts.{AreJoined, AreMetAlong, AreOver, AreRegular, GroupsSum, GroupsTake, IsTaken, PartSum};
 ghost use Rattle.zarrs_chunk_tasks.specs.seen.Grouped.{grouped};
 
 use crate::group_numbers::{first_chunk, last_chunk};
+use crate::multiples::chunks_of_ranges;
 use std::alloc::{AllocError, Global};
 use std::num::NonZeroU64;
 use zarrs_chunks::ChunkGridTraits;
@@ -50,18 +51,17 @@ pub(crate) struct Sums {
     pub(crate) elements: u128,
 }
 
-/// Groups that are alike: each takes as many indices, and one that comes `period` groups later meets as many chunks, each of `period` elements.
+/// Groups of the chunks of a regular dimension, beside another regular dimension.
 #[derive(Drop)]
-pub(crate) struct Alike {
-    /// How many they are, after the first group.
-    pub(crate) many: u64,
-    pub(crate) period: NonZeroU64,
-    /// How many indices each takes.
+pub(crate) struct Regular {
+    /// How many indices each group takes but the first one and the last one.
     pub(crate) long: u64,
+    /// The edge of the other dimension.
+    pub(crate) edge: NonZeroU64,
 }
 
-/// Adds up what is counted of groups, where the range begins at `first` in the array of another grid. Between regular dimensions it goes through a few
-/// groups for each element of a chunk of the other grid, however many there are, and else through all of them.
+/// Adds up what is counted of groups, where the range begins at `first` in the array of another grid. Between regular dimensions it takes a few look-ups,
+/// however many groups there are, and else some for each group.
 ///
 /// # Errors
 /// Out of memory.
@@ -80,65 +80,101 @@ pub(crate) fn sums_along<K: ChunkGridTraits, G: ChunkGridTraits>(
         GroupsSum groups.now groups.now.groups first d s sums) (G.dimensions other.now)
         groups.now.dimension) (K.dimensions groups.now.grid.now) groups.now.dimension) }
 {
-    let Some(alike) = alike_groups(groups, other, first) else {
+    let Some(regular) = regular_groups(groups, other) else {
         return sums_one_by_one(alloc, groups, 0, groups.groups, other, first);
     };
-    let period = alike.period;
-    let left = groups.groups - (alike.many + 1);
+    let last = groups.groups - 1;
     let head = sums_one_by_one(alloc, groups, 0, 1, other, first)?;
-    let once = sums_one_by_one(alloc, groups, 1, period.get(), other, first)?;
-    let rest = sums_one_by_one(alloc, groups, 1, alike.many % period, other, first)?;
-    let tail = sums_one_by_one(alloc, groups, alike.many + 1, left, other, first)?;
-    // No sum and no product is cut off, since groups take no index twice.
-    let chunks = once
-        .chunks
-        .saturating_mul(alike.many / period)
-        .saturating_add(rest.chunks);
-    Ok(Sums {
-        largest: head.largest.max(alike.long).max(tail.largest),
-        chunks: head
-            .chunks
-            .saturating_add(chunks)
-            .saturating_add(tail.chunks),
-        elements: head
-            .elements
-            .saturating_add(u128::from(chunks).saturating_mul(u128::from(period.get())))
-            .saturating_add(tail.elements),
+    let inner = sums_between(alloc, groups, &regular, other, first)?;
+    let tail = sums_one_by_one(alloc, groups, last, 1, other, first)?;
+    Ok(joined(&joined(&head, &inner), &tail))
+}
+
+/// How long the groups are, if both dimensions are regular. `None` also if there are fewer than three groups.
+fn regular_groups<K: ChunkGridTraits, G: ChunkGridTraits>(
+    groups: &GroupsAlong<K>,
+    other: &G,
+) -> Option<Regular>
+    requires groups { Along (GroupsTake groups.now) (K.dimensions groups.now.grid.now)
+        groups.now.dimension }
+    requires other { groups.now.dimension < length (G.dimensions other.now) }
+    ensures some { IfSome result (λ _. 2 < groups.now.groups) }
+    ensures regular { IfSome result (λ regular. Along (λ d. Along (λ s.
+        AreRegular (non_zero_u64_get groups.now.each) d s regular) (G.dimensions other.now)
+        groups.now.dimension) (K.dimensions groups.now.grid.now) groups.now.dimension) }
+{
+    let edge = groups.grid.regular_along(groups.dimension)?;
+    let other_edge = other.regular_along(groups.dimension)?;
+    if groups.groups < 3 {
+        return None;
+    }
+    Some(Regular {
+        long: edge.get().saturating_mul(groups.each.get()),
+        edge: other_edge,
     })
 }
 
-/// Finds groups after the first one that are alike. `None` if a dimension isn't regular, or if these are too few to be worth it.
-fn alike_groups<K: ChunkGridTraits, G: ChunkGridTraits>(
+/// Adds up what is counted of the groups between the first one and the last one. Each takes as many indices.
+///
+/// # Errors
+/// Out of memory.
+fn sums_between<K: ChunkGridTraits, G: ChunkGridTraits>(
+    alloc: Global,
     groups: &GroupsAlong<K>,
+    regular: &Regular,
     other: &G,
     first: u64,
-) -> Option<Alike>
+) -> Result<Sums, AllocError>
     requires groups { Along (GroupsTake groups.now) (K.dimensions groups.now.grid.now)
         groups.now.dimension }
     requires other { Along (λ s. first + groups.now.size ≤ s.array_size) (G.dimensions other.now)
         groups.now.dimension }
     requires first { first + groups.now.size ≤ greatest }
-    ensures alike { IfSome result (λ alike. Along (λ d. Along (λ s. GroupsAlike groups.now first d s
-        alike) (G.dimensions other.now) groups.now.dimension)
-        (K.dimensions groups.now.grid.now) groups.now.dimension) }
-    ensures some { IfSome result (λ alike. non_zero_u64_get alike.period < alike.many) }
-    ensures fewer { IfSome result (λ alike. alike.many + 1 ≤ groups.now.groups) }
+    requires some { 2 < groups.now.groups }
+    requires regular { Along (λ d. Along (λ s. AreRegular (non_zero_u64_get groups.now.each) d s
+        regular.now) (G.dimensions other.now) groups.now.dimension)
+        (K.dimensions groups.now.grid.now) groups.now.dimension }
+    ensures { IfOk result (λ sums. Along (λ d. Along (λ s.
+        PartSum groups.now 1 (groups.now.groups - 2) first d s sums) (G.dimensions other.now)
+        groups.now.dimension) (K.dimensions groups.now.grid.now) groups.now.dimension) }
 {
-    let edge = groups.grid.regular_along(groups.dimension)?;
-    let period = other.regular_along(groups.dimension)?;
-    // The chunk of the other grid that holds the last index may reach over the array, or end with it. All chunks before it have their edge.
-    let last = (first + (groups.size - 1)) / period;
-    let end = groups
-        .at
-        .saturating_add((last * period.get()).saturating_sub(first));
-    let many = (end / edge / groups.each)
-        .saturating_sub(groups.group.saturating_add(1))
-        .min(groups.groups.saturating_sub(1));
-    if many / 2 <= period.get() {
-        return None;
+    let many = groups.groups - 2;
+    let begin = groups.group.saturating_add(1).saturating_mul(regular.long);
+    let start = first.saturating_add(begin.saturating_sub(groups.at));
+    let chunks = chunks_of_ranges(regular.edge, regular.long, start, many);
+    // The chunk that holds the last index may be longer or shorter than those before it.
+    let last = (first + (groups.size - 1)) / regular.edge;
+    let (last_start, last_edge) = found(other.range_along(alloc, groups.dimension, last)?)?;
+    let before = (last_start.saturating_sub(start) / regular.long).min(many);
+    let elements = elements_of(chunks, regular.edge, many - before, last_edge);
+    Ok(Sums {
+        largest: regular.long,
+        chunks,
+        elements,
+    })
+}
+
+/// How many elements chunks have, of which `longer` have another edge.
+fn elements_of(chunks: u64, edge: NonZeroU64, longer: u64, last_edge: u64) -> u128
+    requires { longer ≤ chunks }
+    ensures elements { result ≡ (chunks - longer) * non_zero_u64_get edge + longer * last_edge }
+    ensures edge_fits { non_zero_u64_get edge ≤ greatest }
+    ensures last_fits { last_edge ≤ greatest }
+{
+    u128::from(chunks - longer)
+        .saturating_mul(u128::from(edge.get()))
+        .saturating_add(u128::from(longer).saturating_mul(u128::from(last_edge)))
+}
+
+/// What is counted of groups and of those after them.
+fn joined(one: &Sums, other: &Sums) -> Sums
+    ensures { AreJoined one.now other.now result }
+{
+    Sums {
+        largest: one.largest.max(other.largest),
+        chunks: one.chunks.saturating_add(other.chunks),
+        elements: one.elements.saturating_add(other.elements),
     }
-    let long = edge.get().saturating_mul(groups.each.get());
-    Some(Alike { many, period, long })
 }
 
 /// Goes through `many` groups one after another, the first of which comes `before` groups after the first of all, and adds up what is counted of them.

@@ -26,6 +26,7 @@
 //! | `choices` | the choice of one number for each dimension |
 //! | `largest_chunk` | the largest chunk that holds some of a box of elements |
 //! | `groups_along` | the same along one dimension |
+//! | `multiples` | how many chunks of an edge ranges of one length meet |
 //! | `copied` | the groups of chunks that hold some of the elements of a copy |
 //! | `buffer` | what a group holds of a box of elements |
 //! | `group_numbers` | the groups of chunks, and the chunks of a group |
@@ -44,6 +45,7 @@ mod groups_along;
 mod largest_chunk;
 pub mod laws;
 mod least;
+mod multiples;
 mod plan;
 mod sizes;
 mod stages;

@@ -13,7 +13,7 @@ use zarrs_chunks::{ChunkGrid, ChunkGridTraits};
 /// Up to how many chunks along a dimension tasks are chosen.
 const MOST_TO_CHOOSE: u64 = 1 << 17;
 
-/// Up to how many chunks along a dimension tasks are counted, or up to which edge in regular grids.
+/// Up to how many chunks along a dimension tasks are counted, if a grid isn't regular.
 const MOST_TO_COUNT: u64 = 1 << 20;
 
 /// Whether few enough chunks of the source hold some of a region, and of the target where it goes, to choose tasks.
@@ -55,8 +55,8 @@ fn have_few(
     has_few(alloc, target, moved, most)
 }
 
-/// Whether few enough chunks of the source hold some of a region, and of the target where it goes from an index on, to count tasks. Along dimensions that are
-/// regular in both arrays short edges will do. A region that doesn't fit the arrays can be counted: it has no tasks.
+/// Whether few enough chunks of the source hold some of a region, and of the target where it goes from an index on, to count tasks. Between regular grids
+/// any number will do. A region that doesn't fit the arrays can be counted: it has no tasks.
 ///
 /// # Errors
 /// Out of memory.
@@ -70,7 +70,7 @@ pub(crate) fn can_count(
     ensures { IfOk result (λ can. can ≡ false → HaveMany most_to_count (dimensions_in source.now)
         (dimensions_in target.now) region.now (moved at.now region.now)) }
 {
-    if have_short_edges(source, target) {
+    if are_regular(source, target) {
         return Ok(true);
     }
     match moved_box(alloc, source, target, region, at) {
@@ -80,22 +80,14 @@ pub(crate) fn can_count(
     }
 }
 
-/// Whether both grids are regular along each dimension, with edges that are short enough to count tasks.
-fn have_short_edges(source: &ChunkGrid, target: &ChunkGrid) -> bool {
+/// Whether both grids are regular along each dimension.
+fn are_regular(source: &ChunkGrid, target: &ChunkGrid) -> bool {
     for dimension in 0..source.dimensionality() {
-        if !is_short(source, dimension) || !is_short(target, dimension) {
+        if source.regular_along(dimension).is_none() || target.regular_along(dimension).is_none() {
             return false;
         }
     }
     true
-}
-
-/// Whether a grid is regular along a dimension, with an edge that is short enough to count tasks.
-fn is_short(grid: &ChunkGrid, dimension: usize) -> bool {
-    match grid.regular_along(dimension) {
-        Some(edge) => edge.get() <= MOST_TO_COUNT,
-        None => false,
-    }
 }
 
 /// Whether at most `most` chunks hold some of a box of elements along each dimension.

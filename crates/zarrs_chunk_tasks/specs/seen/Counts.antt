@@ -6,18 +6,18 @@ use Rattle.std.specs.declared.num.NonZeroU64.{NonZeroU64}
 use Rattle.zarrs_chunk_base.specs.ArraySubset.{Box, IsBox, IsEmptyBox, lasts}
 use Rattle.zarrs_chunk_base.specs.Dimension.{Dimension, Holds, array_sizes}
 use Rattle.zarrs_chunk_base.specs.Greatest.{greatest}
-use Rattle.zarrs_chunk_axes.specs.Along.{Along}
+use Rattle.zarrs_chunk_axes.specs.Along.{Along, IsRegular}
 use Rattle.zarrs_chunks.specs.Subsets.{IsCover}
 use Rattle.zarrs_chunks.specs.Walks.{chunks_in}
 use Rattle.zarrs_chunk_plan.specs.Counts.{product}
 use Rattle.zarrs_chunk_plan.specs.Region.{EndWithin}
 use Rattle.zarrs_chunk_plan.specs.seen.Sources.{RangeTakes, home, met, met_by, taken, taken_from}
-use Rattle.zarrs_chunk_tasks.specs.Counts.{AreNone, in_all}
+use Rattle.zarrs_chunk_tasks.specs.Counts.{AreNone, greatest_of_128, in_all}
 use Rattle.zarrs_chunk_tasks.specs.declared.counts.CountsAlong.{CountsAlong}
 use Rattle.zarrs_chunk_tasks.specs.declared.copied.Grouped.{Grouped}
-use Rattle.zarrs_chunk_tasks.specs.declared.groups_along.Alike.{Alike}
 use Rattle.zarrs_chunk_tasks.specs.declared.groups_along.GroupsAlong.{GroupsAlong}
 use Rattle.zarrs_chunk_tasks.specs.declared.groups_along.Met.{Met}
+use Rattle.zarrs_chunk_tasks.specs.declared.groups_along.Regular.{Regular}
 use Rattle.zarrs_chunk_tasks.specs.declared.groups_along.Sums.{Sums}
 use Rattle.zarrs_chunk_tasks.specs.seen.Grouped.{all_grouped, grouped}
 use Rattle.zarrs_chunk_tasks.specs.seen.Tasks.{AreGroups}
@@ -82,17 +82,16 @@ pub record AreSums (k at size group many first : ℕ) (d other : Dimension) (sum
       → sums.chunks + taken_from (grouped d k) at group ≤ min ((grouped d k).end (group + last)) (at + size)
   pub small : sums.elements ≤ sums.chunks * greatest
 
--- Neighbouring groups that are alike. Each takes as many indices. One that comes `period` groups later meets as many chunks of another dimension, each of
--- which has `period` elements.
-pub record AreAlike (k at size group first : ℕ) (d other : Dimension) (many period long : ℕ) : Type 0 where
-  pub take : (j : ℕ) → j < many → taken (grouped d k) at size (group + j) ≡ long
-  pub repeat : (j : ℕ) → j + period < many
-      → of_group met other (grouped d k) first at size (group + (j + period)) ≡ of_group met other (grouped d k) first at size (group + j)
-  pub whole : (j : ℕ) → j < many
-      → of_group whole other (grouped d k) first at size (group + j) ≡ of_group met other (grouped d k) first at size (group + j) * period
-  pub few : (j : ℕ) → j < many → of_group met other (grouped d k) first at size (group + j) ≤ long
-  pub reach : (last : ℕ) → many ≡ last + 1
-      → taken_from (grouped d k) at group + many * long ≤ min ((grouped d k).end (group + last)) (at + size)
+-- what is counted of groups and of those after them, up to the greatest numbers
+pub record AreJoined (one other sums : Sums) : Type 0 where
+  pub largest : sums.largest ≡ max one.largest other.largest
+  pub chunks : sums.chunks ≡ min (one.chunks + other.chunks) greatest
+  pub elements : sums.elements ≡ min (one.elements + other.elements) greatest_of_128
+
+-- Both dimensions are regular. A group of k chunks is so long.
+pub record AreRegular (k : ℕ) (d other : Dimension) (regular : Regular) : Type 0 where
+  pub edge : (b : ℕ) × (0 < b) × IsRegular d b × (regular.long ≡ b * k)
+  pub other_edge : IsRegular other (non_zero_u64_get regular.edge)
 
 module _ {K : Type 0} where
   abbrev pub GroupsTake : GroupsAlong K → Dimension → Type 0
@@ -105,11 +104,6 @@ module _ {K : Type 0} where
   -- of some of the groups, a number of groups after the first
   abbrev pub PartSum : GroupsAlong K → (before many first : ℕ) → (d other : Dimension) → Sums → Type 0
   PartSum groups before many = AreSums (non_zero_u64_get groups.each) groups.at groups.size (groups.group + before) many
-
-  -- the groups after the first one are alike
-  abbrev pub GroupsAlike : GroupsAlong K → (first : ℕ) → (d other : Dimension) → Alike → Type 0
-  GroupsAlike groups first d other alike =
-      AreAlike (non_zero_u64_get groups.each) groups.at groups.size (groups.group + 1) first d other alike.many (non_zero_u64_get alike.period) alike.long
 
 -- ---- all dimensions
 
