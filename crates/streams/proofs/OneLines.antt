@@ -45,9 +45,9 @@ stays a plain (b ∷ []) = grind (arith, nat_tests)
 stays a plain (b ∷ c ∷ bytes) = grind (arith, nat_tests)
 
 -- they stay as they are
-pub all_stay : (xs ys : List ℕ) → AllByRecursion IsPrintable xs → unbroken (xs ++ ys) ≡ xs ++ unbroken ys
-all_stay [] ys all = refl
-all_stay (a ∷ xs) ys all = rw (stays a all.0 (xs ++ ys)) (ap (λ bytes. a ∷ bytes) (all_stay xs ys all.1))
+pub all_stay : (xs : List ℕ) → AllByRecursion IsPrintable xs → unbroken xs ≡ xs
+all_stay [] all = refl
+all_stay (a ∷ xs) all = rw (stays a all.0 xs) (ap (λ bytes. a ∷ bytes) (all_stay xs all.1))
 
 -- ---- a text in pieces, of which the first ends with a byte that is a character
 

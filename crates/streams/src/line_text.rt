@@ -1,5 +1,5 @@
 //! Texts as one line.
-ghost use Rattle.std.specs.Prelude.{◌≡◌, ◌≤◌, ◌++◌, ◌^◌, ◌<◌, ◌↔◌, IfOk, IfSome, IsTrue, OnOk, length, take};
+ghost use Rattle.std.specs.Prelude.{◌≡◌, ◌≤◌, ◌++◌, ◌^◌, ◌<◌, IfOk, IfSome, IsTrue, OnOk, length};
 ghost use Rattle.std.specs.List.{AllByRecursion};
 ghost use Rattle.std.specs.Char.{digit_char};
 ghost use Rattle.streams.specs.OneLine.{IsOneLine, escape, is_control as is_a_control, line_break as break_at, line_of, long_break as long_break_at};
@@ -28,41 +28,28 @@ pub fn one_line(alloc: Global, text: &[u8]) -> Result<Vec<u8>, AllocError>
 pub fn unbroken(alloc: Global, text: &[u8]) -> Result<Vec<u8>, AllocError>
     ensures { IfOk result (λ line. line.items ≡ unbroken_text text.now) }
 {
+    if are_printable(text) {
+        return Vec::from_slice(alloc, text);
+    }
     let mut line = Vec::with_capacity(alloc, text.len())?;
     let mut rest = text;
     while let Some((first, behind)) = rest.split_first() {
-        let plain = plain_length(rest);
-        if plain > 0 {
-            line.extend_from_slice(&rest[..plain])?;
-            rest = &rest[plain..];
-        } else {
-            let more = push_first(&mut line, *first, behind)?;
-            rest = &behind[more..];
-        }
+        let more = push_first(&mut line, *first, behind)?;
+        rest = &behind[more..];
     }
     Ok(line)
 }
 
-/// Returns how many bytes at the beginning of a text are printable characters of ASCII. They stay as they are.
-fn plain_length(text: &[u8]) -> usize
-    ensures within { result ≤ length text.now }
-    ensures plain { AllByRecursion (λ b. (32 ≤ b) × (b < 127)) (take result text.now) }
+/// Whether all bytes of a text are printable characters of ASCII. They stay as they are.
+fn are_printable(text: &[u8]) -> bool
+    ensures { IsTrue result → AllByRecursion (λ b. (32 ≤ b) × (b < 127)) text.now }
 {
-    let mut rest = text;
-    while let Some((byte, behind)) = rest.split_first() {
-        if !is_printable(*byte) {
-            return text.len() - rest.len();
-        }
-        rest = behind;
+    // The compiler takes many bytes at once, since no byte ends the loop.
+    let mut printable = true;
+    for byte in text {
+        printable = printable & (0x20 <= *byte) & (*byte < 0x7F);
     }
-    text.len()
-}
-
-/// Whether a byte is a printable character of ASCII.
-fn is_printable(byte: u8) -> bool
-    ensures { IsTrue result ↔ ((32 ≤ byte) × (byte < 127)) }
-{
-    0x20 <= byte && byte < 0x7F
+    printable
 }
 
 /// Appends the first byte of a text, or the escape of the character that it begins. Returns how many of the bytes behind it belong to that character.
