@@ -378,58 +378,54 @@ module _ (d : Dimension) (k b long at size group groups first_chunk last_chunk :
           omega (arith, all, first_part, behind, product_is, met_product, rest_product, ap (λ n. n * a) rest)
 
       -- they are what is counted
-      pub sums_are : (chunks : ℕ) → first + size ≤ greatest → chunks ≡ min (in_ranges a long start many) greatest
-          → (touching ≤ chunks)
-          × ((sums : Sums) → a ≤ greatest → last_edge ≤ greatest → sums.largest ≡ long → sums.chunks ≡ chunks
-          → sums.elements ≡ (chunks - touching) * a + touching * last_edge → AreSums k at size (group + 1) many first d other sums)
-      sums_are chunks fits is_cut =
+      pub sums_are : (chunks : ℕ) → first + size ≤ greatest → chunks ≡ min (in_ranges a long start many) greatest → (sums : Sums) → a ≤ greatest
+          → last_edge ≤ greatest → sums.largest ≡ long → sums.chunks ≡ chunks → sums.elements ≡ (chunks - touching) * a + touching * last_edge
+          → AreSums k at size (group + 1) many first d other sums
+      sums_are chunks fits is_cut sums small small_last largest chunks_is elements =
           let counted : chunks ≡ in_ranges a long start many = omega (arith, is_cut, at_most, fits) in
-          let less : touching ≤ chunks = omega (arith, touching_few, counted) in (
-            less,
-            λ sums small small_last largest chunks_is elements. record {
-              largest =
-                  largest
-                  ∙ sym (greatest_is (of_group indices other g first at size) (group + 1) many long (omega (arith, three)) (λ j less. (all_of j less).1));
-              chunks = chunks_is ∙ counted ∙ sym chunks_are;
-              elements = elements ∙ ap (λ n. (n - touching) * a + touching * last_edge) counted ∙ sym elements_are;
-              few = λ end same.
-                  let among : end < many = omega (arith, same) in
-                  let (_, _, reached) = all_of end among in
-                  let (begin, _, _) = all_of 0 (omega (arith, among)) in
-                  let step : group + 1 + 0 ≡ group + 1 = omega arith in
-                  let all : many * long ≡ (end + 1) * long = ap (λ n. n * long) same in
-                  omega (
-                    arith,
-                    chunks_is,
-                    counted,
-                    chunks_are,
-                    few,
-                    reached,
-                    begin,
-                    ap (taken_from g at) step,
-                    ap (λ n. n * long) step,
-                    place end,
-                    next_group (group + 1 + end) long,
-                    next_group end long,
-                    all,
-                  );
-              small =
-                  let one = mul-le-mul_right (chunks - touching) small in
-                  let other_part = mul-le-mul_right touching small_last in
-                  omega (
-                    arith,
-                    chunks_is,
-                    elements,
-                    one,
-                    other_part,
-                    less,
-                    mul_comm a (chunks - touching),
-                    mul_comm last_edge touching,
-                    mul_comm greatest touching,
-                    mul_comm greatest (chunks - touching),
-                  );
-            },
-          )
+          let less : touching ≤ chunks = omega (arith, touching_few, counted) in
+          record {
+            largest =
+                largest ∙ sym (greatest_is (of_group indices other g first at size) (group + 1) many long (omega (arith, three)) (λ j less. (all_of j less).1));
+            chunks = chunks_is ∙ counted ∙ sym chunks_are;
+            elements = elements ∙ ap (λ n. (n - touching) * a + touching * last_edge) counted ∙ sym elements_are;
+            few = λ end same.
+                let among : end < many = omega (arith, same) in
+                let (_, _, reached) = all_of end among in
+                let (begin, _, _) = all_of 0 (omega (arith, among)) in
+                let step : group + 1 + 0 ≡ group + 1 = omega arith in
+                let all : many * long ≡ (end + 1) * long = ap (λ n. n * long) same in
+                omega (
+                  arith,
+                  chunks_is,
+                  counted,
+                  chunks_are,
+                  few,
+                  reached,
+                  begin,
+                  ap (taken_from g at) step,
+                  ap (λ n. n * long) step,
+                  place end,
+                  next_group (group + 1 + end) long,
+                  next_group end long,
+                  all,
+                );
+            small =
+                let one = mul-le-mul_right (chunks - touching) small in
+                let other_part = mul-le-mul_right touching small_last in
+                omega (
+                  arith,
+                  chunks_is,
+                  elements,
+                  one,
+                  other_part,
+                  less,
+                  mul_comm a (chunks - touching),
+                  mul_comm last_edge touching,
+                  mul_comm greatest touching,
+                  mul_comm greatest (chunks - touching),
+                );
+          }
 
 -- along a dimension of a grid
 pub full_along : (ds others : List Dimension) (dimension k at size group groups first_chunk last_chunk : ℕ) (regular : Regular) → AllByRecursion IsChain ds

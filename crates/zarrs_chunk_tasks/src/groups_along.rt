@@ -156,12 +156,11 @@ fn sums_between<K: ChunkGridTraits, G: ChunkGridTraits>(
 
 /// How many elements chunks have, of which `longer` have another edge.
 fn elements_of(chunks: u64, edge: NonZeroU64, longer: u64, last_edge: u64) -> u128
-    requires { longer ≤ chunks }
     ensures elements { result ≡ (chunks - longer) * non_zero_u64_get edge + longer * last_edge }
     ensures edge_fits { non_zero_u64_get edge ≤ greatest }
     ensures last_fits { last_edge ≤ greatest }
 {
-    u128::from(chunks - longer)
+    u128::from(chunks.saturating_sub(longer))
         .saturating_mul(u128::from(edge.get()))
         .saturating_add(u128::from(longer).saturating_mul(u128::from(last_edge)))
 }

@@ -6,7 +6,7 @@ ghost use Rattle.zarrs_chunk_tasks.specs.seen.Multiples.{in_ranges, multiples};
 
 use std::num::NonZeroU64;
 
-/// Counts the chunks of an edge that hold some of `many` ranges of a length, one behind another, the first of which begins at `start`: a chunk in each range.
+/// Counts the chunks of an edge that hold some of `many` ranges of a length, one after another, the first of which begins at `start`: a chunk in each range.
 ///
 /// A range that doesn't begin with a chunk meets the last one of the range before it.
 pub(crate) fn chunks_of_ranges(edge: NonZeroU64, long: u64, start: u64, many: u64) -> u64

@@ -12,7 +12,7 @@ unfoldable pub multiples : (a step x many : ℕ) → ℕ
 multiples a step x zero = 0
 multiples a step x (suc many) = multiples a step x many + one_if_zero ((x + many * step) % a)
 
--- how many chunks of an edge hold some of the range of a number, of ranges of one length one behind another
+-- how many chunks of an edge hold some of the range of a number, of ranges of one length, one after another
 abbrev pub in_range : (edge long start : ℕ) → ℕ → ℕ
 in_range edge long start j = suc ((start + j * long + (long - 1)) / edge) - (start + j * long) / edge
 

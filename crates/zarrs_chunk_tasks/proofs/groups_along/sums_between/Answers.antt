@@ -47,35 +47,6 @@ nonzero_div-saturating_sub g c =
     in
     full.some
 
-pub elements_of-elements-requires : goal.elements_of-elements-requires
-elements_of-elements-requires g c =
-    let groups = c.args.groups.now in
-    let full = full_along _ _ groups.dimension (non_zero_u64_get groups.each) groups.at groups.size groups.group groups.groups groups.first groups.last
-    c.args.regular.now (g.met.K.ChunkGridTraits.chained groups.grid.now) (g.met.G.ChunkGridTraits.chained c.args.other.now) groups.each.ok c.requires.some
-    c.requires.groups c.requires.regular
-    in
-    let it = one_of _ _ groups.dimension (g.met.K.ChunkGridTraits.chained groups.grid.now) c.requires.groups in
-    let taking = it.at _ c.requires.groups in
-    let start =
-    start_is groups.at groups.size groups.group groups.groups c.args.first c.args.regular.now.long c.saturating_add.result c.saturating_mul-begin.result
-    c.saturating_add-start.result full taking.over.fits c.requires.first taking.groups_fit c.requires.some c.saturating_add.ensures c.saturating_mul-begin.ensures
-    (omega (arith, c.saturating_add-start.ensures, c.saturating_sub.ensures))
-    in
-    let other = one_of _ _ groups.dimension (g.met.G.ChunkGridTraits.chained c.args.other.now) c.requires.other in
-    let regular = other.at _ (it.at _ c.requires.regular) in
-    let (b, some, is_regular, long_is) = regular.edge in
-    let range = rw c.div-last.ensures at (other.at _ (rw (c.in_ok-last_start.ensures {u = tt}) at (c.in_ok-range_along.ensures {u = tt}))) in
-    let before = c.min-before.ensures ∙ ap (λ n. min (n / c.args.regular.now.long) (groups.groups - 2))
-    (c.saturating_sub-2.ensures ∙ ap (λ n. c.in_ok-last_start.last_start - n) start) in
-    let chunks = c.chunks_of_ranges-chunks.ensures
-    ∙ ap (λ n. min (in_ranges (non_zero_u64_get c.args.regular.now.edge) c.args.regular.now.long n (groups.groups - 2)) greatest) start in
-    let (few, are) = sums_are it.d (non_zero_u64_get groups.each) b c.args.regular.now.long groups.at groups.size groups.group groups.groups groups.first groups.last
-    it.chain groups.each.ok some long_is is_regular taking c.requires.some other.d (non_zero_u64_get c.args.regular.now.edge) c.args.first other.chain
-    c.args.regular.now.edge.ok regular.other_edge (other.at _ c.requires.other) c.in_ok-last_start.last_start c.in_ok-last_start.last_edge c.min-before.result range
-    before c.chunks_of_ranges-chunks.result c.requires.first chunks
-    in
-    few
-
 pub returns : goal.returns
 returns g c =
     let groups = c.args.groups.now in
@@ -98,7 +69,7 @@ returns g c =
     (c.saturating_sub-2.ensures ∙ ap (λ n. c.in_ok-last_start.last_start - n) start) in
     let chunks = c.chunks_of_ranges-chunks.ensures
     ∙ ap (λ n. min (in_ranges (non_zero_u64_get c.args.regular.now.edge) c.args.regular.now.long n (groups.groups - 2)) greatest) start in
-    let (few, are) = sums_are it.d (non_zero_u64_get groups.each) b c.args.regular.now.long groups.at groups.size groups.group groups.groups groups.first groups.last
+    let are = sums_are it.d (non_zero_u64_get groups.each) b c.args.regular.now.long groups.at groups.size groups.group groups.groups groups.first groups.last
     it.chain groups.each.ok some long_is is_regular taking c.requires.some other.d (non_zero_u64_get c.args.regular.now.edge) c.args.first other.chain
     c.args.regular.now.edge.ok regular.other_edge (other.at _ c.requires.other) c.in_ok-last_start.last_start c.in_ok-last_start.last_edge c.min-before.result range
     before c.chunks_of_ranges-chunks.result c.requires.first chunks
