@@ -13,7 +13,7 @@
 //! | `prepared` | the chunk of an element, by the numbers of a grid that was prepared once |
 //! | `subsets` | the keys of all chunks of a grid, and of those that a box of elements meets |
 //! | `reading` | the elements of a box, read from a store |
-//! | `rechunking` | how many chunks of the source a chunk of the target is made of, at most |
+//! | `rechunking` | how many chunks of the source a task of a rechunking reads, at most |
 //! | `stairs` | a grid of one's own |
 //! | `versioned` | an encoding of one's own |
 #![tactic(auto)]

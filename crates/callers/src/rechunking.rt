@@ -1,28 +1,28 @@
-//! How many chunks of the source a chunk of the target is made of, at most: a rechunker that holds them all at once needs room for so many.
+//! How many chunks of the source a task of a rechunking reads, at most.
 use std::alloc::Global;
+use std::num::NonZeroU64;
 use zarrs_chunk_base::Refusal;
 use zarrs_chunk_keys::ChunkKeyEncodingTraits;
-use zarrs_chunk_plan::{ChunkCopies, CopiesError, StoredArray, all_chunks, copies};
+use zarrs_chunk_parts::expect_answer;
+use zarrs_chunk_plan::{StoredArray, parts, whole_array};
+use zarrs_chunk_tasks::{TasksError, tasks};
 use zarrs_chunks::ChunkGridTraits;
 
-/// The greatest number of chunks of the source that one chunk of the target is copied from.
-pub fn most_sources<
-    G: ChunkGridTraits,
-    E: ChunkKeyEncodingTraits,
-    H: ChunkGridTraits,
-    F: ChunkKeyEncodingTraits,
->(
+/// The greatest number of chunks of the source that one task reads.
+pub fn most_sources<G: ChunkGridTraits, E: ChunkKeyEncodingTraits, H: ChunkGridTraits>(
     alloc: Global,
     source: &StoredArray<G, E>,
-    target: &StoredArray<H, F>,
-) -> Result<u64, Refusal<CopiesError>> {
-    let all = all_chunks(alloc, &target.grid)?;
+    target: &H,
+    task_chunks: &[NonZeroU64],
+) -> Result<u64, Refusal<TasksError>> {
+    let array = whole_array(alloc, target)?;
     let mut most = 0u64;
-    for group in copies(alloc, source, target, &all)? {
-        let ChunkCopies { to: _, from } = group?;
+    for task in tasks(alloc, &source.grid, target, &array, array.start(), task_chunks)? {
+        let task = task?;
+        let read = expect_answer(parts(alloc, &source.grid, &source.encoding, &task.source))?;
         let mut count = 0u64;
-        for part in from {
-            // It goes from `part.in_chunk` of the chunk under `part.key` to `part.in_subset` of the target's chunk.
+        for part in read {
+            // It goes from `part.in_chunk` of the chunk under `part.key` to `part.in_subset` of the task's buffer.
             let _part = part?;
             count = count.saturating_add(1);
         }

@@ -1,4 +1,4 @@
-//! How many chunks a chunk is made of: a row of seven elements, from chunks of four to chunks of three, of which the second lies in two.
+//! How many chunks a task reads: a row of seven elements goes from chunks of four to chunks of three, of which the second lies in two.
 use crate::compared::check_that;
 use crate::tests::values;
 use callers::most_sources;
@@ -22,10 +22,11 @@ fn row(
 }
 
 #[test]
-fn a_chunk_is_made_of_two(rt: HostRuntime) -> Result<(), Fail> {
+fn a_task_reads_two_chunks(rt: HostRuntime) -> Result<(), Fail> {
     let source = row(rt.alloc(), "[4]")?;
     let target = row(rt.alloc(), "[3]")?;
-    let most = most_sources(rt.alloc(), &source, &target)?;
+    let each = values(rt.alloc(), "[1]")?;
+    let most = most_sources(rt.alloc(), &source, &target.grid, &each)?;
     check_that(&rt, most == 2, "two chunks");
     Ok(())
 }

@@ -17,10 +17,8 @@ pub mod ReadsLast
 pub mod RouteLists
 pub mod RunOutcomes
 pub mod SharedLines
-pub mod StagePlans
 pub mod Steps
 pub mod StoredParts
 pub mod StoredTasks
-pub mod TasksBegun
 pub mod Tokens
 pub mod Unended

@@ -14,7 +14,6 @@
 //! | `task_choice` | the tasks that a document wants |
 //! | `route` | the arrays by way of which a copy is made, and its stages |
 //! | `stages` | the elements of a copy, and its stages |
-//! | `few_chunks` | whether there are few enough chunks to choose tasks, and to count them |
 //! | `task_lines` | the lines of tasks, sent as they are made |
 //! | `copying` | parts and changes of chunks, sent as they are made |
 //! | `line` | one line |
@@ -42,7 +41,6 @@ ghost use Rattle.streams.specs.seen.Sent.{HoldsAll, watched_in, written};
 mod copying;
 mod counting;
 mod document;
-mod few_chunks;
 mod keys;
 mod known_members;
 mod line;

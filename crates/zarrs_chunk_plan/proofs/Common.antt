@@ -35,8 +35,8 @@ pub use Rattle.zarrs_chunk_parts.specs.declared.part.Part.{Part}
 pub use Rattle.zarrs_chunk_plan.specs.Bytes.{begins, in_order}
 unfoldable pub use Rattle.zarrs_chunk_plan.specs.Counted.{counted}
 pub use Rattle.zarrs_chunk_plan.specs.Counts.{AreMany, product}
-pub use Rattle.zarrs_chunk_plan.specs.Rechunking.{AreCopiesInto, Group, IsRechunking, all_chunks_box, array_box, copies_of}
-pub use Rattle.zarrs_chunk_plan.specs.Region.{AnyChunk, AreMovedInto, CanBeMoved, EndWithin, IsCopy, MovesTo, moved, shifted}
+pub use Rattle.zarrs_chunk_plan.specs.ArrayBoxes.{all_chunks_box, array_box}
+pub use Rattle.zarrs_chunk_plan.specs.Region.{CanBeMoved, EndWithin, moved, shifted}
 pub use Rattle.zarrs_chunk_plan.specs.Resize.{AreResized, HasElementOf, IsChange, IsChanged, IsKept, IsUsed}
 pub use Rattle.zarrs_chunk_plan.specs.Shares.{before_share, between}
 pub use Rattle.zarrs_chunk_plan.specs.declared.resize.plan.Change.{Change}
@@ -44,8 +44,7 @@ pub use Rattle.zarrs_chunk_plan.specs.seen.Between.{rank}
 pub use Rattle.zarrs_chunk_plan.specs.seen.Changes.{changes_to_come}
 pub use Rattle.zarrs_chunk_plan.specs.seen.Outside.{chunks_of_boxes, lesser}
 pub use Rattle.zarrs_chunk_plan.specs.seen.Parts.{HasKeys}
-pub use Rattle.zarrs_chunk_plan.specs.seen.RegularCounts.{Divides, all_meeting}
-pub use Rattle.zarrs_chunk_plan.specs.seen.Sources.{AreRanges, AreSumAndMost, TakesSome, counters, counters_from, met_along, met_by, met_by_range}
+pub use Rattle.zarrs_chunk_plan.specs.seen.Sources.{TakesSome, counters, counters_from, met_along, met_by}
 pub use Rattle.zarrs_chunk_plan.specs.seen.Sources.{met_in, taken, taken_from}
 unfoldable pub use Rattle.zarrs_chunk_plan.specs.seen.Sources.{met}
 unfoldable pub use Rattle.zarrs_chunk_plan.specs.seen.StoredChunks.{is_stored}

@@ -2,7 +2,6 @@ pub mod BoxCover
 pub mod ByNumber
 pub mod Clipped
 mod Common
-pub mod Copied
 pub mod HeldBoxes
 pub mod KnownMarks
 pub mod MetChunks
@@ -15,7 +14,6 @@ pub mod SameBoxes
 pub mod ShareLists
 pub mod SharedBoxes
 pub mod SomePlan
-pub mod SomeRegions
 pub mod SomeResizes
 pub mod StridedForms
 pub mod Taken

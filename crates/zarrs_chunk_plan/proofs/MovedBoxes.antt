@@ -49,18 +49,6 @@ pub whole_within : (sizes : List ℕ) → EndWithin (replicate (length sizes) 0)
 whole_within [] = tt
 whole_within (size ∷ sizes) = (omega arith, whole_within sizes)
 
-pub whole_lies : (ds : List Dimension) → LiesIn (array_box ds) (array_sizes ds)
-whole_lies ds =
-    let many : length (array_sizes ds) ≡ length ds = length-map ds (λ (d : Dimension). d.array_size) in rw (sym many) (whole_within (array_sizes ds))
-
--- so it can stay where it is, where both arrays have one shape
-pub can_stay : (source target : List Dimension) → array_sizes source ≡ array_sizes target
-    → CanBeMoved (array_sizes source) (array_sizes target) (array_box target) (array_box target).start
-can_stay source target one_array = record {
-  in_source = subst (LiesIn (array_box target)) (sym one_array) (whole_lies target);
-  in_target = whole_lies target;
-}
-
 -- so does a box of which the last element is one of the array, and an empty one that begins at 0
 pub lasts_lie : (start shape sizes : List ℕ) → length start ≡ length shape → (¬ Contains shape 0) → AreBelow sizes (lasts start shape)
     → EndWithin start shape sizes

@@ -309,12 +309,6 @@ module _ {ds : List Dimension} {IsKey : List ℕ → List ℕ → Type 0} {b : B
       (λ one other part next _ _ differ is is_other index place also has has_other.
       differ (same_box ds one other index chains (has_common is has).0 (has_common is_other has_other).0))
 
-  -- the parts are of different chunks
-  pub parts_differ : AllPairs (λ part other. part.chunk.items ≢ other.chunk.items) parts
-  parts_differ =
-      each_two (λ part other. part.chunk.items ≢ other.chunk.items)
-      (λ one other part next _ _ differ is is_other same. differ (sym is.numbers ∙ same ∙ is_other.numbers))
-
   pub keys_differ :
       ((chunk other key : List ℕ) → AllFit chunk → AllFit other → length chunk ≡ length other → IsKey chunk key → IsKey other key → chunk ≡ other)
       → AllPairs (λ part other. part.key ≢ other.key) parts

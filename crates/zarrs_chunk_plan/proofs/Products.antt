@@ -2,7 +2,6 @@
 use Rattle.zarrs_chunk_plan.proofs.Common.{◌≡◌, ◌∙◌, ℕ, zero, suc, ◌+◌, ◌*◌, ◌<◌, ◌≤◌, List, [], ◌∷◌, ◌++◌, fold, length, map, max, refl, ap, ap₂}
 use Rattle.zarrs_chunk_plan.proofs.Common.{sym, ⊎_elim, arith, mul_comm, cases_lt, sum_by-cons, flat_map, range_with_len, sum, Box, IsEmptyBox}
 use Rattle.zarrs_chunk_plan.proofs.Common.{row_major, rows, chunks_in, counted_from, product, met_by, met_in}
-use Rattle.zarrs_chunk_plan.specs.seen.TargetCounts.{met_by_each}
 use Rattle.zarrs_chunk_plan.proofs.shares.Between.{none_below}
 
 abbrev pub times_each : ℕ → List ℕ → List ℕ
@@ -111,8 +110,3 @@ met_by_all (h ∷ counters) (a ∷ first) (n ∷ sizes) f g =
     let begin : a + 0 ≡ a = omega arith in
     met_in_rows h counters a 0 n first (row_major sizes) ∙ rw (begin, rest) refl
 met_by_all _ _ _ f g = absurd (omega arith)
-
--- of no chunks
-pub of_none : (counters : List (ℕ → ℕ)) (targets : Box) → IsEmptyBox targets → met_by_each counters targets ≡ []
-of_none counters targets empty =
-    ap (λ lists. map (λ chunk. product (met_by counters chunk)) (map (counted_from targets.start) lists)) (none_below targets.shape empty)

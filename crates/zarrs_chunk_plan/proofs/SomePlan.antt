@@ -71,16 +71,6 @@ covers_all ds chains b is_box homes =
     (λ some. let (cover, is) = has_cover ds chains b is_box some homes in (cover, covers_some ds b cover chains is_box some is))
     (empty_or_some b.shape)
 
--- what covers a box that isn't empty goes from the chunk of its first element to that of its last
-pub is_cover_of : (ds : List Dimension) → AllByRecursion IsChain ds → (b cover : Box) → IsBox b → (¬ IsEmptyBox b) → Covers ds b cover
-    → IsCover ds b cover
-is_cover_of ds chains b cover is_box some covers =
-    let (other, is) = has_cover ds chains b is_box some covers.homes in
-    let named = cover_meets ds b other chains is_box some is in
-    subst (IsCover ds b)
-    (same_box_of other cover other.start (first_within other.start other.shape is.is_box.lengths is.some)
-    (λ chunk. (λ inside. (covers.named chunk).1 ((named chunk).0 inside), λ inside. (named chunk).1 ((covers.named chunk).0 inside)))) is
-
 -- ---- the parts
 
 pub each_has : {X Y : Type 0} (P : X → Type 0) (R : X → Y → Type 0) → ((x : X) → P x → (y : Y) × R x y) → (xs : List X) → AllByRecursion P xs

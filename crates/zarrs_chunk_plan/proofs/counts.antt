@@ -1,11 +1,6 @@
 pub mod BoxCounts
-pub mod CountedCopies
 pub mod CountedParts
-pub mod CountsTold
-pub mod Divisors
 pub mod HeldRanges
 pub mod MetCovers
 pub mod OneDimension
-pub mod RegularCounts
-pub mod RegularDimensions
 pub mod Written

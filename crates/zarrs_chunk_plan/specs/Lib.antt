@@ -1,13 +1,12 @@
 pub use Rattle.zarrs_chunk_parts.specs.Plan
+pub mod ArrayBoxes
 pub mod Bytes
 pub mod Clip
 pub mod Counted
 pub mod Counts
-pub mod Rechunking
 pub mod Region
 pub mod Resize
 pub mod Shares
-pub mod SomeCopies
 pub mod SomeParts
 pub mod StoredChunks
 pub mod Strided

@@ -7,7 +7,7 @@ use Rattle.zarrs_chunk_base.specs.ArraySubset.{IsBox, IsInside}
 use Rattle.zarrs_chunk_base.specs.Dimension.{Dimension, Holds, InBox, IsShape, array_sizes}
 use Rattle.zarrs_chunk_axes.specs.InBounds.{AreBelow}
 use Rattle.zarrs_chunk_parts.specs.Plan.{Meets}
-use Rattle.zarrs_chunk_plan.specs.Rechunking.{array_box}
+use Rattle.zarrs_chunk_plan.specs.ArrayBoxes.{array_box}
 use Rattle.zarrs_chunk_plan.specs.declared.resize.changed.ChangedChunks.{ChangedChunks}
 use Rattle.zarrs_chunk_plan.specs.declared.resize.plan.Change.{Change}
 use Rattle.zarrs_chunk_plan.specs.declared.resize.plan.Change.TheVariants.{Delete, Keep, New, Rewrite}

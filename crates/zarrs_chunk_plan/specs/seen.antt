@@ -1,13 +1,10 @@
 pub mod Between
 pub mod Changes
 pub mod ChunkIter
-pub mod Copies
 pub mod Outside
 pub mod Parts
 pub mod ReadCounts
-pub mod RegularCounts
 pub mod Rows
 pub mod Sources
 pub mod StoredChunks
-pub mod TargetCounts
 pub mod Used

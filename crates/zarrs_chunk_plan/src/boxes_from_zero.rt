@@ -2,7 +2,7 @@
 ghost use Rattle.std.specs.Prelude.{◌≡◌, ℕ, IfOk, List, length, replicate};
 ghost use Rattle.zarrs_chunk_base.specs.ArraySubset.{IsBox, IsInside};
 ghost use Rattle.zarrs_chunk_parts.specs.Plan.{Meets};
-ghost use Rattle.zarrs_chunk_plan.specs.Rechunking.{all_chunks_box, array_box};
+ghost use Rattle.zarrs_chunk_plan.specs.ArrayBoxes.{all_chunks_box, array_box};
 
 use std::alloc::{AllocError, Global};
 use zarrs_chunk_base::ArraySubset;

@@ -8,14 +8,7 @@
 //! | No two parts have one key | [`no_two_parts_have_one_key`] |
 //! | The parts' boxes tile the box: each place in it lies in exactly one, they reach nowhere else, and none is empty | [`the_parts_tile_the_box`] |
 //! | Shares of a plan are together the plan | [`shares_are_together_the_plan`] |
-//! | What a walk that `copies` or `copies_of_region` returns gives, one group after another, is the rechunking, or the copy of the region | [`the_walk_gives_the_copy`] |
-//! | Each element that goes into a chosen chunk is moved, place to place, by exactly one copy | [`each_element_is_copied_once`] |
-//! | Each chunk that takes some of a region has one group; one that is whole is written whole | [`each_chunk_has_one_group`] |
-//! | A copy of a rechunking whose part of the source is whole is the only one of that chunk | [`a_whole_part_is_the_only_one_of_its_chunk`] |
-//! | A rechunking the other way round has the same copies | [`the_other_way_round_has_the_same_copies`] |
-//! | Two rechunkings, the second of what the first one leaves, are together one | [`two_stages_are_together_one`] |
-//! | Copies that share the target's chunks out are together the whole one | [`copies_that_share_out_are_the_whole_one`] |
-//! | Each box that has a cover has a plan; there is a copy of each region, into any chunks | [`there_is_a_plan`] |
+//! | Each box that has a cover has a plan | [`there_is_a_plan`] |
 //! | Byte ranges of the form that is answered have the bytes of the box's elements, and no other | [`byte_ranges_have_the_bytes_of_the_box`] |
 //! | Grids that one configuration makes of two array shapes share their chunks | [`grids_of_one_configuration_share_their_chunks`] |
 //! | What a walk that `changes` answers gives, one after another, is the plan of the resize | [`the_walk_gives_the_resize`] |
@@ -36,11 +29,8 @@ ghost use Rattle.zarrs_chunk_base.specs.Grid.{Grid};
 ghost use Rattle.zarrs_chunk_base.specs.Metadata.{Extension};
 ghost use Rattle.zarrs_chunks.specs.GridKinds.{IsGrid};
 ghost use Rattle.zarrs_chunks.specs.Subsets.{IsCover};
-ghost use Rattle.zarrs_chunks.specs.Walks.{chunks_in};
 ghost use Rattle.zarrs_chunk_plan.specs.Bytes.{FindsRanges};
 ghost use Rattle.zarrs_chunk_parts.specs.Plan.{HasElement, IsPart, IsPlan};
-ghost use Rattle.zarrs_chunk_plan.specs.Rechunking.{AreTargets, Goes, Group, IsExchanged, IsRechunking, ShareOut, all_chunks_box, array_box, copies_of};
-ghost use Rattle.zarrs_chunk_plan.specs.Region.{CanBeMoved, IsChosen, IsCopy, IsDestination, MovesTo, moved};
 ghost use Rattle.zarrs_chunk_plan.specs.Resize.{AreChanged, AreChangedChunks, AreResized, HasElementOf, IsAsked, IsChange, IsChanged, IsKept, IsResizePlan, IsUsed};
 ghost use Rattle.zarrs_chunk_plan.specs.declared.resize.changed.ChangedChunks.{ChangedChunks};
 ghost use Rattle.zarrs_chunk_plan.specs.declared.resize.plan.Change.TheVariants.{Delete, Keep, New, Rewrite};
@@ -49,10 +39,9 @@ ghost use Rattle.zarrs_chunk_plan.specs.Strided.{form_of, ranges_of};
 ghost use Rattle.zarrs_chunk_plan.specs.declared.bytes.ranges.ByteRanges.{ByteRanges as ByteRangesValue};
 ghost use Rattle.zarrs_chunk_plan.specs.declared.bytes.ranges.MemoryOrder.{MemoryOrder as MemoryOrderValue};
 ghost use Rattle.zarrs_chunk_plan.specs.seen.Changes.{AreChangesToCome, CanChange, GivesChange, IsAboutResize, changes_to_come};
-ghost use Rattle.zarrs_chunk_plan.specs.seen.Copies.{AreMovesToCome, CanMove, GivesCopies, HasAllParts, IsAboutCopies, first_of, targets_to_come};
 ghost use Rattle.zarrs_chunk_plan.specs.seen.Parts.{ArePartsToCome, GivesPart, IsPlanned, MeetSubset};
 
-use crate::{Change, Changes, ChunkChange, ChunkCopies, Copies, Part, Parts, StoredArray};
+use crate::{Change, Changes, ChunkChange, Part, Parts, StoredArray};
 use zarrs_chunk_base::ArraySubset;
 use zarrs_chunk_keys::ChunkKeyEncodingTraits;
 use zarrs_chunks::ChunkGridTraits;
@@ -78,8 +67,6 @@ pub fn the_walk_gives_the_plan<G: ChunkGridTraits, E: ChunkKeyEncodingTraits>(
 pub fn shares_are_together_the_plan()
     ensures of_a_read { (of : ℕ) → 0 < of → (parts : List Part)
         → flat_map (λ number. numbered_share number of parts) (range_with_len 0 of) ≡ parts }
-    ensures of_a_rechunking { (of : ℕ) → 0 < of → (groups : List Group)
-        → flat_map (λ number. numbered_share number of groups) (range_with_len 0 of) ≡ groups }
 {}
 
 /// Each element of the box lies in exactly one part of the plan. The part's chunk holds the element, and the place that the part has it at is the
@@ -140,241 +127,13 @@ pub fn the_parts_tile_the_box<G: ChunkGridTraits, E: ChunkKeyEncodingTraits>(
     array_subset.is_a_box();
 }
 
-/// What a walk over copies gives up to its end, each group with all of its parts, is its groups to come. These are the rechunking, for a walk that `copies`
-/// returns, and the copy of the region, for one that `copies_of_region` returns. The region of a rechunking is the whole array, which goes to where it is.
-pub fn the_walk_gives_the_copy<
-    G: ChunkGridTraits,
-    E: ChunkKeyEncodingTraits,
-    H: ChunkGridTraits,
-    F: ChunkKeyEncodingTraits,
->(source: &StoredArray<G, E>, target: &StoredArray<H, F>)
-    ensures to_come { (walk : Copies G E H F) (given : List (ChunkCopies G E))
-        (groups : List Group) → CanMove G.dimensions H.dimensions walk
-        → Drains (GivesCopies G.dimensions H.dimensions F.is_key) walk (map Ok given)
-        → AllZip (HasAllParts G.dimensions E.is_key) given groups
-        → AreMovesToCome G.dimensions E.is_key H.dimensions F.is_key walk groups }
-    ensures copy { (region : Box) (at : List ℕ) (chosen : Option Box) (targets : Box)
-        (walk : Copies G E H F) (groups : List Group)
-        → CanBeMoved (array_sizes (G.dimensions source.now.grid))
-        (array_sizes (H.dimensions target.now.grid)) region at → IsBox targets
-        → AreTargets (H.dimensions target.now.grid) (moved at region) (IsChosen chosen) targets
-        → targets_to_come walk ≡ chunks_in targets
-        → IsAboutCopies source.now target.now (moved at region) walk
-        → first_of walk ≡ region.start
-        → AreMovesToCome G.dimensions E.is_key H.dimensions F.is_key walk groups
-        → IsCopy (G.dimensions source.now.grid) (E.is_key source.now.encoding)
-        (H.dimensions target.now.grid) (F.is_key target.now.encoding) region at (IsChosen chosen)
-        groups }
-    ensures whole_array { array_sizes (G.dimensions source.now.grid)
-        ≡ array_sizes (H.dimensions target.now.grid)
-        → CanBeMoved (array_sizes (G.dimensions source.now.grid))
-        (array_sizes (H.dimensions target.now.grid)) (array_box (H.dimensions target.now.grid))
-        (array_box (H.dimensions target.now.grid)).start }
-{}
-
-/// Each element of the region that goes into a chosen chunk is moved by exactly one copy: from its place in the chunk of the source that holds it to
-/// its new place, in that chunk of the target. No two copies write one element of the target's array, or read one of the source's. Each copy is under the
-/// keys of its two chunks, its two boxes have one shape, and it moves nothing but elements of the region. An element of a rechunking keeps its index.
-pub fn each_element_is_copied_once<
-    G: ChunkGridTraits,
-    E: ChunkKeyEncodingTraits,
-    H: ChunkGridTraits,
-    F: ChunkKeyEncodingTraits,
->(source: &StoredArray<G, E>, target: &StoredArray<H, F>)
-    ensures one { (region : Box) (at : List ℕ) (chosen : Option Box) (groups : List Group)
-        → IsCopy (G.dimensions source.now.grid) (E.is_key source.now.encoding)
-        (H.dimensions target.now.grid) (F.is_key target.now.encoding) region at (IsChosen chosen)
-        groups
-        → (index to chunk : List ℕ) → IsDestination region at index to
-        → InBox (H.dimensions target.now.grid) chunk to → IsChosen chosen chunk
-        → (copy : Part × Part) × Contains (copies_of groups) copy × ((steps : List ℕ)
-        × MovesTo (G.dimensions source.now.grid) (H.dimensions target.now.grid) copy steps index to) }
-    ensures no_other { (region : Box) (at : List ℕ) (chosen : Option Box) (groups : List Group)
-        → IsCopy (G.dimensions source.now.grid) (E.is_key source.now.encoding)
-        (H.dimensions target.now.grid) (F.is_key target.now.encoding) region at (IsChosen chosen)
-        groups
-        → AllPairs (λ copy other. (steps also index next to : List ℕ)
-        → MovesTo (G.dimensions source.now.grid) (H.dimensions target.now.grid) copy steps index to
-        → MovesTo (G.dimensions source.now.grid) (H.dimensions target.now.grid) other also next to
-        → ⊥) (copies_of groups) }
-    ensures no_other_source { (region : Box) (at : List ℕ) (chosen : Option Box)
-        (groups : List Group)
-        → IsCopy (G.dimensions source.now.grid) (E.is_key source.now.encoding)
-        (H.dimensions target.now.grid) (F.is_key target.now.encoding) region at (IsChosen chosen)
-        groups
-        → AllPairs (λ copy other. (steps also index to next : List ℕ)
-        → MovesTo (G.dimensions source.now.grid) (H.dimensions target.now.grid) copy steps index to
-        → MovesTo (G.dimensions source.now.grid) (H.dimensions target.now.grid) other also index
-        next → ⊥) (copies_of groups) }
-    ensures nothing_else { (region : Box) (at : List ℕ) (chosen : Option Box) (groups : List Group)
-        → IsCopy (G.dimensions source.now.grid) (E.is_key source.now.encoding)
-        (H.dimensions target.now.grid) (F.is_key target.now.encoding) region at (IsChosen chosen)
-        groups
-        → (copy : Part × Part) → Contains (copies_of groups) copy
-        → (steps : List ℕ) → AreBelow copy.0.in_chunk.shape steps
-        → (index : List ℕ) × (to : List ℕ) × IsDestination region at index to
-        × MovesTo (G.dimensions source.now.grid) (H.dimensions target.now.grid) copy steps index to }
-    ensures keys { (region : Box) (at : List ℕ) (chosen : Option Box) (groups : List Group)
-        → IsCopy (G.dimensions source.now.grid) (E.is_key source.now.encoding)
-        (H.dimensions target.now.grid) (F.is_key target.now.encoding) region at (IsChosen chosen)
-        groups
-        → (copy : Part × Part) → Contains (copies_of groups) copy
-        → E.is_key source.now.encoding copy.0.chunk.items copy.0.key
-        × F.is_key target.now.encoding copy.1.chunk.items copy.1.key
-        × IsChosen chosen copy.1.chunk.items }
-    ensures one_shape { (region : Box) (at : List ℕ) (chosen : Option Box) (groups : List Group)
-        → IsCopy (G.dimensions source.now.grid) (E.is_key source.now.encoding)
-        (H.dimensions target.now.grid) (F.is_key target.now.encoding) region at (IsChosen chosen)
-        groups
-        → (copy : Part × Part) → Contains (copies_of groups) copy
-        → copy.0.in_chunk.shape ≡ copy.0.in_subset.shape }
-    ensures whole_array { (index to : List ℕ)
-        → IsDestination (array_box (H.dimensions target.now.grid))
-        (array_box (H.dimensions target.now.grid)).start index to
-        ↔ (AreBelow (array_sizes (H.dimensions target.now.grid)) index × (index ≡ to)) }
-{}
-
-/// No two groups of a copy are under one key, so each chunk of the target is written once. If a chunk is whole, each element of the target's array that
-/// it holds is written.
-pub fn each_chunk_has_one_group<
-    G: ChunkGridTraits,
-    E: ChunkKeyEncodingTraits,
-    H: ChunkGridTraits,
-    F: ChunkKeyEncodingTraits,
->(source: &StoredArray<G, E>, target: &StoredArray<H, F>)
-    ensures one_key { (region : Box) (at : List ℕ) (chosen : Option Box) (groups : List Group)
-        → IsCopy (G.dimensions source.now.grid) (E.is_key source.now.encoding)
-        (H.dimensions target.now.grid) (F.is_key target.now.encoding) region at (IsChosen chosen)
-        groups
-        → AllPairs (λ group other. group.0.key ≢ other.0.key) groups }
-    ensures whole { (region : Box) (at : List ℕ) (chosen : Option Box) (groups : List Group)
-        → IsCopy (G.dimensions source.now.grid) (E.is_key source.now.encoding)
-        (H.dimensions target.now.grid) (F.is_key target.now.encoding) region at (IsChosen chosen)
-        groups
-        → (group : Group) → Contains groups group → IsTrue group.0.whole
-        → (index : List ℕ) → InBox (H.dimensions target.now.grid) group.0.chunk.items index
-        → AreBelow (array_sizes (H.dimensions target.now.grid)) index
-        → (copy : Part × Part) × Contains (copies_of groups) copy × ((steps : List ℕ) × (from : List ℕ)
-        × MovesTo (G.dimensions source.now.grid) (H.dimensions target.now.grid) copy steps from index) }
-{}
-
-/// In a rechunking a copy whose part of the source is whole, so that it has all elements of the array which that chunk holds, is the only one of this
-/// chunk. In a rechunking the other way round, as the order of the source is planned, that is a chunk of the target: nothing else writes it.
-pub fn a_whole_part_is_the_only_one_of_its_chunk<
-    G: ChunkGridTraits,
-    E: ChunkKeyEncodingTraits,
-    H: ChunkGridTraits,
-    F: ChunkKeyEncodingTraits,
->(source: &StoredArray<G, E>, target: &StoredArray<H, F>)
-    ensures { array_sizes (G.dimensions source.now.grid)
-        ≡ array_sizes (H.dimensions target.now.grid) → (chunks : Box) (groups : List Group)
-        → IsRechunking (G.dimensions source.now.grid) (E.is_key source.now.encoding)
-        (H.dimensions target.now.grid) (F.is_key target.now.encoding) chunks groups
-        → AllPairs (λ copy other. copy.0.chunk.items ≡ other.0.chunk.items
-        → IsTrue copy.0.whole ⊎ IsTrue other.0.whole → ⊥) (copies_of groups) }
-{}
-
-/// A rechunking the other way round, into all chunks of the source, has each copy of the rechunking: between the same two chunks and the same box of
-/// each. So the plan in the order of the source, which has a group for each of its chunks, copies what a plan in the order of the target does; and,
-/// as this holds of any two arrays, nothing else, where that is into all chunks of the target.
-pub fn the_other_way_round_has_the_same_copies<
-    G: ChunkGridTraits,
-    E: ChunkKeyEncodingTraits,
-    H: ChunkGridTraits,
-    F: ChunkKeyEncodingTraits,
->(source: &StoredArray<G, E>, target: &StoredArray<H, F>)
-    ensures { array_sizes (G.dimensions source.now.grid)
-        ≡ array_sizes (H.dimensions target.now.grid) → (chunks : Box) (groups others : List Group)
-        → IsRechunking (G.dimensions source.now.grid) (E.is_key source.now.encoding)
-        (H.dimensions target.now.grid) (F.is_key target.now.encoding) chunks groups
-        → IsRechunking (H.dimensions target.now.grid) (F.is_key target.now.encoding)
-        (G.dimensions source.now.grid) (E.is_key source.now.encoding)
-        (all_chunks_box (G.dimensions source.now.grid)) others
-        → (copy : Part × Part) → Contains (copies_of groups) copy
-        → (other : Part × Part) × Contains (copies_of others) other × IsExchanged copy other }
-{}
-
-/// Two rechunkings, the second of what the first one leaves, are together one. An element goes from a place in a chunk of the source to a place in a chunk
-/// of the target exactly where the first takes it to some place in some intermediate chunk, and the second takes it from there. As each element is moved by
-/// exactly one copy of each of the three, it is written once and read once between the stages.
-pub fn two_stages_are_together_one<
-    G: ChunkGridTraits,
-    E: ChunkKeyEncodingTraits,
-    B: ChunkGridTraits,
-    K: ChunkKeyEncodingTraits,
-    H: ChunkGridTraits,
-    F: ChunkKeyEncodingTraits,
->(source: &StoredArray<G, E>, between: &StoredArray<B, K>, target: &StoredArray<H, F>)
-    ensures { array_sizes (B.dimensions between.now.grid)
-        ≡ array_sizes (H.dimensions target.now.grid)
-        → (chunks : Box) (first second groups : List Group)
-        → IsRechunking (G.dimensions source.now.grid) (E.is_key source.now.encoding)
-        (B.dimensions between.now.grid) (K.is_key between.now.encoding)
-        (all_chunks_box (B.dimensions between.now.grid)) first
-        → IsRechunking (B.dimensions between.now.grid) (K.is_key between.now.encoding)
-        (H.dimensions target.now.grid) (F.is_key target.now.encoding) chunks second
-        → IsRechunking (G.dimensions source.now.grid) (E.is_key source.now.encoding)
-        (H.dimensions target.now.grid) (F.is_key target.now.encoding) chunks groups
-        → (index chunk place to_chunk to_place : List ℕ)
-        → Goes (G.dimensions source.now.grid) (H.dimensions target.now.grid) groups index chunk
-        place to_chunk to_place
-        ↔ ((mid_chunk : List ℕ) × (mid_place : List ℕ)
-        × Goes (G.dimensions source.now.grid) (B.dimensions between.now.grid) first index chunk
-        place mid_chunk mid_place
-        × Goes (B.dimensions between.now.grid) (H.dimensions target.now.grid) second index
-        mid_chunk mid_place to_chunk to_place) }
-{}
-
-/// Copies into boxes of chunks that share the target's chunks out are together the whole copy: each element of the region is moved by exactly one copy of
-/// exactly one of them.
-pub fn copies_that_share_out_are_the_whole_one<
-    G: ChunkGridTraits,
-    E: ChunkKeyEncodingTraits,
-    H: ChunkGridTraits,
-    F: ChunkKeyEncodingTraits,
->(source: &StoredArray<G, E>, target: &StoredArray<H, F>)
-    ensures one { (region : Box) (at : List ℕ) → CanBeMoved
-        (array_sizes (G.dimensions source.now.grid)) (array_sizes (H.dimensions target.now.grid))
-        region at → (boxes : List Box) (plans : List (List Group))
-        → ShareOut (H.dimensions target.now.grid) (moved at region) boxes → AllZip (λ b.
-        IsCopy (G.dimensions source.now.grid) (E.is_key source.now.encoding)
-        (H.dimensions target.now.grid) (F.is_key target.now.encoding) region at (IsInside b))
-        boxes plans → (index to : List ℕ) → IsDestination region at index to
-        → (copy : Part × Part) × Contains (flat_map copies_of plans) copy × ((steps : List ℕ)
-        × MovesTo (G.dimensions source.now.grid) (H.dimensions target.now.grid) copy steps index to) }
-    ensures no_other { (region : Box) (at : List ℕ) → CanBeMoved
-        (array_sizes (G.dimensions source.now.grid)) (array_sizes (H.dimensions target.now.grid))
-        region at → (boxes : List Box) (plans : List (List Group))
-        → ShareOut (H.dimensions target.now.grid) (moved at region) boxes → AllZip (λ b.
-        IsCopy (G.dimensions source.now.grid) (E.is_key source.now.encoding)
-        (H.dimensions target.now.grid) (F.is_key target.now.encoding) region at (IsInside b))
-        boxes plans → AllPairs (λ copy other. (steps also index next to : List ℕ)
-        → MovesTo (G.dimensions source.now.grid) (H.dimensions target.now.grid) copy steps index to
-        → MovesTo (G.dimensions source.now.grid) (H.dimensions target.now.grid) other also next to
-        → ⊥) (flat_map copies_of plans) }
-{}
-
-/// Each box of elements that has a cover has a plan, and so does an empty one. There is a copy, into any chosen chunks, of each region that lies in both
-/// arrays. So no law above is about nothing: every encoding has a key of each chunk.
-pub fn there_is_a_plan<
-    G: ChunkGridTraits,
-    E: ChunkKeyEncodingTraits,
-    H: ChunkGridTraits,
-    F: ChunkKeyEncodingTraits,
->(source: &StoredArray<G, E>, target: &StoredArray<H, F>)
+/// Each box of elements that has a cover has a plan, and so does an empty one. So no law above is about nothing: every encoding has a key of each chunk.
+pub fn there_is_a_plan<G: ChunkGridTraits, E: ChunkKeyEncodingTraits>(source: &StoredArray<G, E>)
     ensures of_a_read { (elements cover : Box) → IsBox elements → (¬ IsEmptyBox elements)
         → IsCover (G.dimensions source.now.grid) elements cover → (parts : List Part)
         × IsPlan (G.dimensions source.now.grid) (E.is_key source.now.encoding) elements parts }
     ensures of_nothing { (elements : Box) → IsEmptyBox elements
         → IsPlan (G.dimensions source.now.grid) (E.is_key source.now.encoding) elements [] }
-    ensures of_a_copy { (region targets : Box) (at : List ℕ) (chosen : Option Box) → IsBox region
-        → IsBox (moved at region) → CanBeMoved (array_sizes (G.dimensions source.now.grid))
-        (array_sizes (H.dimensions target.now.grid)) region at → IsBox targets
-        → AreTargets (H.dimensions target.now.grid) (moved at region) (IsChosen chosen) targets
-        → (groups : List Group)
-        × IsCopy (G.dimensions source.now.grid) (E.is_key source.now.encoding)
-        (H.dimensions target.now.grid) (F.is_key target.now.encoding) region at (IsChosen chosen)
-        groups }
 {}
 
 /// Grids that one configuration makes of two array shapes, of whatever kind it is, hold each index that both arrays have in the same chunk. So they
@@ -460,8 +219,8 @@ pub fn there_is_a_resize<G: ChunkGridTraits, H: ChunkGridTraits, E: ChunkKeyEnco
     all_fit(after.array_shape());
 }
 
-/// That sizes are at most the greatest number: the types say it.
-pub(crate) fn all_fit(sizes: &[u64])
+/// Sizes are at most the greatest number, as their type says.
+pub fn all_fit(sizes: &[u64])
     ensures { AllFit sizes.now }
 {}
 

@@ -1,10 +1,9 @@
-//! Plans: which parts of which chunks a box of elements is made of, and what a rechunking copies from which chunk to which.
+//! Plans: which parts of which chunks a box of elements is made of, and what becomes of the chunks of an array that gets another shape.
 //!
-//! [`parts`] takes a grid, an encoding and a box of elements, and gives a part for each chunk that holds some of the box, one after another.
-//! [`copies`] takes an array as it is stored and as it is to be stored, and gives for each chunk of the target the parts of the source's chunks that
-//! have its elements. [`copies_of_region`] does so of a box of elements that goes to another place, or to an array of another shape. [`changes`]
-//! tells what becomes of each chunk of an array that gets another shape, [`changed_chunks`] says it in three lists of numbers. All ask grids and encodings
-//! by their traits alone, so these may be of other crates. `CALLING.md` has callers.
+//! [`parts`] takes a grid, an encoding and a box of elements, and gives a part for each chunk that holds some of the box, one after another. [`changes`]
+//! gives what becomes of each chunk of an array that gets another shape, and [`changed_chunks`] says it in three lists of numbers. All ask grids and
+//! encodings by their traits alone, so these may come from other crates. Copies from one array to another are in `zarrs_chunk_tasks`. `CALLING.md` has
+//! callers.
 //!
 //! ```text
 //! RegularChunkGrid, array shape [6, 6], chunk shape [4, 3], default keys with `/`, box [3..6, 2..4]
@@ -19,9 +18,9 @@
 //! | Module | What it holds |
 //! |---|---|
 //! | `read` | reading a box of elements |
-//! | `copy` | copying a box of elements to another array, or to another place: rechunkings and regions |
+//! | `copy` | the boxes of a copy from one array to another, and what of it is stored |
 //! | `resize` | what becomes of the chunks of an array that gets another shape |
-//! | `counts` | how much a plan copies, without a walk over it |
+//! | `counts` | how much a read takes, without a walk over its plan |
 //! | `bytes` | which bytes of an uncompressed chunk hold the elements of a box |
 //! | `shares` | the chunks in a box of chunk numbers, by their number and by shares |
 //! | `stored_array` | an array as it is stored: a grid and an encoding |
@@ -41,15 +40,12 @@ mod stored_array;
 
 pub use boxes_from_zero::{all_chunks, whole_array};
 pub use bytes::ranges::{ByteRanges, MemoryOrder, byte_ranges};
-pub use copy::chunk_copies::{ChunkCopies, Copies};
 pub use copy::chunk_elements::elements_of_chunks;
-pub use copy::copies_error::CopiesError;
 pub use copy::moved::shifted_box;
-pub use copy::rechunking::copies;
-pub use copy::region::{copies_of_region, moved_box, place_in_target};
+pub use copy::region::moved_box;
 pub use copy::region_error::RegionError;
 pub use copy::stored_chunks::StoredChunks;
-pub use counts::of_plans::{Counts, counts_of_read, counts_of_rechunking, counts_of_region};
+pub use counts::of_plans::{Counts, counts_of_read};
 pub use read::clipping::clip;
 pub use read::numbered_parts::{SomeParts, some_parts};
 pub use read::plan::parts;

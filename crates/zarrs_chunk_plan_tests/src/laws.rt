@@ -1,16 +1,13 @@
-//! The laws, of a source and a target in one array.
+//! The laws of reads and resizes.
 use crate::rows::{row, some_of};
 use std::test::Fail;
 use zarrs_chunk_plan::laws::{
-    a_kept_chunk_is_as_it_was, a_whole_part_is_the_only_one_of_its_chunk,
-    byte_ranges_have_the_bytes_of_the_box, copies_that_share_out_are_the_whole_one,
-    each_chunk_has_one_change, each_chunk_has_one_group, each_element_is_copied_once,
+    a_kept_chunk_is_as_it_was, byte_ranges_have_the_bytes_of_the_box, each_chunk_has_one_change,
     each_element_lies_in_one_part, each_element_stays_in_its_chunk,
     each_element_that_leaves_or_comes_changes_its_chunk,
     grids_of_one_configuration_share_their_chunks, no_two_parts_have_one_key,
-    shares_are_together_the_plan, the_other_way_round_has_the_same_copies, the_parts_tile_the_box,
-    the_walk_gives_the_copy, the_walk_gives_the_plan, the_walk_gives_the_resize, there_is_a_plan,
-    there_is_a_resize, two_stages_are_together_one,
+    shares_are_together_the_plan, the_parts_tile_the_box, the_walk_gives_the_plan,
+    the_walk_gives_the_resize, there_is_a_plan, there_is_a_resize,
 };
 
 #[test]
@@ -22,20 +19,7 @@ fn of_reads(rt: HostRuntime) -> Result<(), Fail> {
     no_two_parts_have_one_key(&array.grid, &array.encoding, &elements);
     the_parts_tile_the_box(&array.grid, &array.encoding, &elements);
     byte_ranges_have_the_bytes_of_the_box();
-    Ok(())
-}
-
-#[test]
-fn of_copies(rt: HostRuntime) -> Result<(), Fail> {
-    let (source, target) = (row(rt.alloc(), 7, 4)?, row(rt.alloc(), 7, 3)?);
-    the_walk_gives_the_copy(&source, &target);
-    each_element_is_copied_once(&source, &target);
-    each_chunk_has_one_group(&source, &target);
-    a_whole_part_is_the_only_one_of_its_chunk(&source, &target);
-    the_other_way_round_has_the_same_copies(&source, &target);
-    two_stages_are_together_one(&source, &target, &source);
-    copies_that_share_out_are_the_whole_one(&source, &target);
-    there_is_a_plan(&source, &target);
+    there_is_a_plan(&array);
     Ok(())
 }
 

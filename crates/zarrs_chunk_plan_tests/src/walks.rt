@@ -1,21 +1,13 @@
-//! Walks that stay ended, after an error too, and walks that go to any part or group.
+//! Walks that stay ended, after an error too, and walks that go to any part.
 use crate::rows::{Stored, append_part, check_text, row, some_of};
 use std::alloc::Global;
 use std::process::Abort;
 use std::test::Fail;
 use zarrs_chunk_keys::DefaultChunkKeyEncoding;
-use zarrs_chunk_plan::{ChunkCopies, Copies, Parts, copies_of_region, parts};
+use zarrs_chunk_plan::{Parts, parts};
 use zarrs_chunks::RegularChunkGrid;
 
 type Walk<'a> = Parts<'a, RegularChunkGrid, DefaultChunkKeyEncoding>;
-
-type Groups<'a> = Copies<
-    'a,
-    RegularChunkGrid,
-    DefaultChunkKeyEncoding,
-    RegularChunkGrid,
-    DefaultChunkKeyEncoding,
->;
 
 /// The walk over the parts of so many elements of a row, from one on.
 fn walk_over(alloc: Global, array: &Stored, first: u64, count: u64) -> Result<Walk<'_>, Fail> {
@@ -85,59 +77,5 @@ fn a_walk_goes_to_any_part_and_stays_ended(rt: HostRuntime) -> Result<(), Fail> 
         append_from(&rt, &mut lines, &mut walk, number)?;
     }
     check_text(&rt, lines.as_str(), ANY_PARTS);
-    Ok(())
-}
-
-/// The walk over what goes from six elements of a row of seven into two chunks of another row.
-fn walk_between<'a>(
-    alloc: Global,
-    source: &'a Stored,
-    target: &'a Stored,
-) -> Result<Groups<'a>, Fail> {
-    let region = some_of(alloc, 1, 6)?;
-    Ok(copies_of_region(alloc, source, target, &region, &[0, 0, 0, 0, 4])?)
-}
-
-/// The key of the next chunk that a walk writes, or none where it has ended.
-fn next_key(alloc: Global, walk: &mut Groups<'_>) -> Result<String, Fail> {
-    match walk.next() {
-        Some(group) => {
-            let ChunkCopies { to, from: _ } = group?;
-            Ok(String::from_str(alloc, to.key.as_str())?)
-        }
-        None => Ok(String::from_str(alloc, "none")?),
-    }
-}
-
-/// The key of the chunk with a number that a walk writes, or of the next one, or none.
-fn key_at(alloc: Global, walk: &mut Groups<'_>, number: Option<u64>) -> Result<String, Fail> {
-    if let Some(number) = number {
-        walk.skip_to(number)?;
-    }
-    next_key(alloc, walk)
-}
-
-/// Of two groups: behind the last, back to it, behind it again, as far as numbers go, and back to the first.
-#[test]
-fn a_walk_over_a_region_goes_to_any_group(rt: HostRuntime) -> Result<(), Fail> {
-    let (source, target) = (row(rt.alloc(), 7, 3)?, row(rt.alloc(), 12, 5)?);
-    let mut walk = walk_between(rt.alloc(), &source, &target)?;
-    assert_eq!(rt; walk.in_all(), Some(2));
-    for (number, expected) in [
-        (Some(2), "none"),
-        (Some(1), "c/0/0/0/0/1"),
-        (Some(2), "none"),
-        (Some(u64::MAX), "none"),
-        (Some(0), "c/0/0/0/0/0"),
-        (None, "c/0/0/0/0/1"),
-        (None, "none"),
-        (None, "none"),
-    ] {
-        check_text(
-            &rt,
-            key_at(rt.alloc(), &mut walk, number)?.as_str(),
-            expected,
-        );
-    }
     Ok(())
 }

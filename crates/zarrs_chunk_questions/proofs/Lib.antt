@@ -3,12 +3,10 @@ pub mod Refusals
 pub mod ResizedGrids
 pub mod AnswerLines
 pub mod SomeItems
-pub mod GroupPages
+pub mod PartsAhead
+pub mod TaskPages
 pub mod Listed
 pub mod WalkPages
-pub mod RechunkingsAsked
-pub mod RegionsAsked
 pub mod NoFloats
 pub mod Lengths
 pub mod LongPages
-pub mod Ahead

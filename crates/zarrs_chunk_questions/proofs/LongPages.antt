@@ -1,6 +1,6 @@
 -- How long the text of a page is at least, by how many items it has.
 use Rattle.std.proofs.Common.{◌≡◌, ◌∙◌, ℕ, suc, ◌+◌, ◌*◌, ◌<◌, ◌≤◌, Bool, true, false, MatchOption, List, [], ◌∷◌, Option, Some, None}
-use Rattle.std.proofs.Common.{◌-◌, Err, IfOk, Ok, Result, ap, arith, codes, cond, drop, min, nat_lt, length, map, refl, subst, take}
+use Rattle.std.proofs.Common.{◌-◌, Err, IfOk, Ok, Result, ap, ap₂, arith, codes, cond, drop, min, nat_lt, length, map, refl, subst, take}
 use Rattle.std.specs.declared.alloc.AllocError.{AllocError}
 use Rattle.std.proofs.lemmas.Nat.{mul-le}
 use Rattle.std.proofs.lemmas.List.{length-map}
@@ -18,20 +18,19 @@ use Rattle.zarrs_chunks.proofs.ChunksInBoxes.{length_below}
 use Rattle.zarrs_chunks.proofs.Covers.{head_some, tail_some}
 use Rattle.zarrs_chunk_parts.specs.Plan.{IsPart, Meets}
 use Rattle.zarrs_chunk_parts.specs.declared.part.Part.{Part}
-use Rattle.zarrs_chunk_plan.specs.Rechunking.{Group}
-use Rattle.zarrs_chunk_plan.specs.Region.{AreMovedInto, LiesIn, moved, shifted}
-use Rattle.zarrs_chunk_plan.proofs.Plans.{all_long, length_counted, meet_each, not_empty, place_below}
-use Rattle.zarrs_chunk_plan.specs.Region.{EndWithin}
-use Rattle.zarrs_chunk_questions.specs.Pages.{chunks_from, count_of, is_more, item_tree, item_trees, page_from, page_tree, part_tree, source_tree, target_chunk_tree, walk_page}
-use Rattle.zarrs_chunk_questions.specs.Regions.{moved_source_tree}
+use Rattle.zarrs_chunk_keys.specs.ChunkKey.{IsKey}
+use Rattle.zarrs_chunk_plan.proofs.MovedBoxes.{within_long}
+use Rattle.zarrs_chunk_plan.proofs.Plans.{all_long, meet_each}
+use Rattle.zarrs_chunk_tasks.specs.Tasks.{TaskPlan}
+use Rattle.zarrs_chunk_questions.specs.Pages.{count_of, is_more, item_tree, item_trees, page_from, page_tree, part_tree, some_from, walk_page}
+use Rattle.zarrs_chunk_questions.specs.Tasks.{Copy, HasPartsOf, HasTasksOf, overlap_tree, source_dimensions, target_dimensions, task_tree, whole_if}
+use Rattle.zarrs_chunk_questions.specs.Trees.{numbers_tree}
 use Rattle.zarrs_chunk_questions.specs.declared.call.WalkOf.{WalkOf}
 use Rattle.zarrs_chunk_questions.specs.declared.call.WalkOf.TheVariants.{Boxes, Chunks, ChunksAndBoxes}
-use Rattle.zarrs_chunk_questions.specs.declared.plan_trees.PlanOf.{PlanOf}
-use Rattle.zarrs_chunk_questions.specs.declared.plan_trees.PlanOf.TheVariants.{OfRechunking, OfRegion}
-use Rattle.zarrs_chunk_questions.specs.seen.Groups.{parts_in, tree_in}
+use Rattle.zarrs_chunk_questions.specs.seen.Copies.{parts_in, parts_of}
 use Rattle.zarrs_chunk_questions.specs.seen.Lines.{IsGiven}
 use Rattle.zarrs_chunk_questions.specs.seen.Walked.{IsFirstPage, lists_in}
-use Rattle.zarrs_chunk_questions.proofs.Lengths.{array_long, box_long, each_long, first_member_long, numbers_long, page_long, text_long, texts, three_long}
+use Rattle.zarrs_chunk_questions.proofs.Lengths.{array_long, box_long, each_long, member_long, numbers_long, page_long, text_long, texts, three_long}
 use Rattle.zarrs_chunk_questions.proofs.Listed.{all_behind, all_taken}
 
 -- ---- what is given, in other words
@@ -129,11 +128,11 @@ module _ (walk : WalkOf) (ds : List Dimension) (most room too_many : ℕ) (full 
 
   -- from a number on
   pub page_given : (first : ℕ) (found : Option Value)
-      → MatchOption found (too_many ≤ length (item_trees walk ds (chunks_from first most (chunks_of ds)))) (λ tree. view tree ≡ page_from walk ds first most)
+      → MatchOption found (too_many ≤ length (item_trees walk ds (some_from first most (chunks_of ds)))) (λ tree. view tree ≡ page_from walk ds first most)
       → IsGiven (room + 1) (λ t. t ≡ walk_page walk ds most (Some first)) found
   page_given first (Some tree) is = is
   page_given first None many =
-      let chunks = chunks_from first most (chunks_of ds) in
+      let chunks = some_from first most (chunks_of ds) in
       let IsLong : List ℕ → Type 0 = λ chunk. length chunk ≡ length ds in (
         page_from walk ds first most,
         refl,
@@ -150,7 +149,7 @@ module _ (walk : WalkOf) (ds : List Dimension) (most room too_many : ℕ) (full 
   first_made (Err _) is = tt
 
   pub page_made : (first : ℕ) (result : Result (Option Value) AllocError)
-      → IfOk result (λ found. MatchOption found (too_many ≤ length (item_trees walk ds (chunks_from first most (chunks_of ds))))
+      → IfOk result (λ found. MatchOption found (too_many ≤ length (item_trees walk ds (some_from first most (chunks_of ds))))
       (λ tree. view tree ≡ page_from walk ds first most))
       → IfOk result (IsGiven (room + 1) (λ t. t ≡ walk_page walk ds most (Some first)))
   page_made first (Ok found) is = page_given first found is
@@ -158,9 +157,12 @@ module _ (walk : WalkOf) (ds : List Dimension) (most room too_many : ℕ) (full 
 
 -- ---- parts
 
--- the last member of a part's tree
+-- the last member of a part's tree, and the last ones of the tree of what a chunk and a buffer share
 abbrev the_key : Part → Members
 the_key part = member (codes "key") (string part.key) no_members
+
+abbrev behind_boxes : (written : Bool) → Part → Members
+behind_boxes written part = member (codes "key") (string part.key) (member (codes "shape") (numbers_tree part.shape.items) (whole_if written part))
 
 abbrev pub part_least : List Dimension → ℕ
 part_least ds = 2 * (5 * length ds) + 1
@@ -183,18 +185,11 @@ module _ {ds : List Dimension} {IsKey : List ℕ → List ℕ → Type 0} {b : B
       three_long (length ds) (codes "chunk") (codes "in_chunk") (codes "in_subset") part.chunk.items part.in_chunk part.in_subset (the_key part)
       numbers start shape also_start also_shape
 
-  source_long : part_least ds ≤ text_long (source_tree part)
-  source_long =
+  overlap_long : (written : Bool) → part_least ds ≤ text_long (overlap_tree written part)
+  overlap_long written =
       let (_, numbers, start, shape, also_start, also_shape) = lists_long in
-      three_long (length ds) (codes "chunk") (codes "in_chunk") (codes "in_target") part.chunk.items part.in_chunk part.in_subset (the_key part)
-      numbers start shape also_start also_shape
-
-  moved_source_long : (first : List ℕ) → length first ≡ length ds → part_least ds ≤ text_long (moved_source_tree first part)
-  moved_source_long first same =
-      let (_, numbers, start, shape, also_start, also_shape) = lists_long in
-      let counted = length_counted first part.in_subset.start (omega arith) in
-      three_long (length ds) (codes "chunk") (codes "in_chunk") (codes "in_target") part.chunk.items part.in_chunk (shifted first part.in_subset)
-      (the_key part) numbers start shape (omega arith) also_shape
+      three_long (length ds) (codes "chunk") (codes "in_buffer") (codes "in_chunk") part.chunk.items part.in_subset part.in_chunk
+      (behind_boxes written part) numbers also_start also_shape start shape
 
 -- each of parts, of chunks that hold elements of the box
 each_part : (ds : List Dimension) (IsKey : List ℕ → List ℕ → Type 0) (b : Box) (tree : Part → Data)
@@ -210,107 +205,69 @@ pub parts_long : (ds : List Dimension) (IsKey : List ℕ → List ℕ → Type 0
     → AllZip (IsPart ds IsKey b) chunks parts → AllByRecursion (Meets ds b) chunks → AreLong (part_least ds) (map part_tree parts)
 parts_long ds IsKey b = each_part ds IsKey b part_tree (λ chunk part is meets. part_long is meets)
 
--- ---- where the elements of a chunk of the target are read
+-- ---- tasks
 
--- the last index of a box that isn't empty lies in it
-last_within : (first sizes : List ℕ) → length first ≡ length sizes → (¬ Contains sizes 0) → AreWithin first sizes (lasts first sizes)
-last_within [] [] same some = tt
-last_within (a ∷ first) (n ∷ sizes) same some =
-    let here = head_some n sizes some in
-    (omega arith, omega arith, last_within first sizes (omega arith) (tail_some n sizes some))
-last_within _ _ same some = absurd (omega arith)
-
--- a box that lies in another one, counted from its first element, is a box of the array
-shifted_is_box : (first shape start counts : List ℕ) → IsBox (record { start = first; shape = shape }) → length start ≡ length counts
-    → (¬ Contains counts 0) → AreBelow shape (lasts start counts) → IsBox (record { start = counted_from first start; shape = counts })
-shifted_is_box [] [] [] [] is_box same some below = record { lengths = refl; fits = tt }
-shifted_is_box (f ∷ first) (n ∷ shape) (s ∷ start) (count ∷ counts) is_box same some below =
-    let long = is_box.lengths in
-    let others : IsBox (record { start = first; shape = shape }) = record { lengths = omega arith; fits = is_box.fits.1 } in
-    let rest = shifted_is_box first shape start counts others (omega arith) (tail_some count counts some) below.1 in
-    record { lengths = ap suc rest.lengths; fits = (omega arith, rest.fits) }
-shifted_is_box [] [] (_ ∷ _) (_ ∷ _) is_box same some below = absurd below
-shifted_is_box (_ ∷ _) (_ ∷ _) [] [] is_box same some below = absurd below
-shifted_is_box _ _ _ _ is_box same some below = let long = is_box.lengths in absurd (omega arith)
-
-pub read_is_box : {target : List Dimension} {IsTargetKey : List ℕ → List ℕ → Type 0} (region : Box) {at chunk : List ℕ} {to : Part}
-    → IsPart target IsTargetKey (moved at region) chunk to → IsBox region → Meets target (moved at region) chunk
-    → IsBox (shifted region.start to.in_subset)
-read_is_box region {to = to} is is_region meets =
-    let part = is.boxes.from_subset.is_box.lengths in
-    let some = not_empty is meets in
-    let last = last_within to.in_subset.start to.in_subset.shape part some in
-    shifted_is_box region.start region.shape to.in_subset.start to.in_subset.shape is_region part some (place_below is _ last)
-
--- ---- groups
-
-within_long : (start shape sizes : List ℕ) → EndWithin start shape sizes → length start ≡ length sizes
-within_long [] [] [] lies = refl
-within_long (s ∷ start) (n ∷ shape) (size ∷ sizes) lies = ap suc (within_long start shape sizes lies.1)
-within_long _ _ _ lies = absurd lies
-
--- the text of a list of trees that are so many
-listed_long : (k : List ℕ) (ms : Members) (least : ℕ) (ds : List Data) → AreLong least ds
-    → length ds * least ≤ text_long (object (member k (array (items_of ds)) ms))
-listed_long k ms least ds all =
-    let each = each_long least ds all in
-    let long = array_long ds in
-    let first = first_member_long k (array (items_of ds)) ms in
+-- the text of an object with two lists of trees behind its first member
+lists_of_two : (j k l : List ℕ) (before : Data) (least : ℕ) (one other : List Data) → AreLong least one → AreLong least other
+    → (length one + length other) * least
+    ≤ text_long (object (member j before (member k (array (items_of one)) (member l (array (items_of other)) no_members))))
+lists_of_two j k l before least one other all also =
+    let ms = member l (array (items_of other)) no_members in
+    let each = each_long least one all in
+    let others = each_long least other also in
+    let long = array_long one in
+    let also_long = array_long other in
+    let first = member_long false j before (member k (array (items_of one)) ms) in
+    let second = member_long true k (array (items_of one)) ms in
+    let third = member_long true l (array (items_of other)) no_members in
+    let both : (length one + length other) * least ≡ length one * least + length other * least = omega arith in
     omega arith
 
-module _ (source : List Dimension) (IsSourceKey : List ℕ → List ℕ → Type 0) (target : List Dimension) (IsTargetKey : List ℕ → List ℕ → Type 0)
-    (chains : AllByRecursion IsChain source) (region : Box) (at : List ℕ) (is_region : IsBox region) (is_moved : IsBox (moved at region))
-    (lies : LiesIn region (array_sizes source)) where
-  module _ (chunk : List ℕ) (group : Group) (is : AreMovedInto source IsSourceKey target IsTargetKey region at chunk group)
-      (meets : Meets target (moved at region) chunk) where
-    first_long : length group.0.in_chunk.start ≡ length source
-    first_long =
-        let (box, _, start, _, _, _) = lists_long is.to meets in
-        let from = within_long region.start region.shape (array_sizes source) lies in
-        let sizes = length-map source (λ d. d.array_size) in
-        let one = is_region.lengths in
-        let other = is_moved.lengths in
-        omega arith
+module _ (copy : Copy) (has : HasTasksOf copy) where
+  abbrev source : List Dimension
+  source = source_dimensions copy
 
-    group_long : (plan : PlanOf) → length group.1 * part_least source ≤ text_long (tree_in plan group)
-    group_long OfRechunking =
-        let all = each_part source IsSourceKey (shifted region.start group.0.in_subset) source_tree (λ s part is meets. source_long is meets)
-        (chunks_in is.from.cover) group.1 is.from.are_parts (meet_each is.from.is_cover)
-        in
-        let many = length-map group.1 source_tree in
-        subst (λ n. n * part_least source ≤ text_long (tree_in OfRechunking group)) many
-        (listed_long (codes "from") (member (codes "to") (target_chunk_tree group.0) no_members) (part_least source) (map source_tree group.1) all)
-    group_long OfRegion =
-        let tree = moved_source_tree group.0.in_chunk.start in
-        let all = each_part source IsSourceKey (shifted region.start group.0.in_subset) tree
-        (λ s part is meets. moved_source_long is meets group.0.in_chunk.start first_long)
-        (chunks_in is.from.cover) group.1 is.from.are_parts (meet_each is.from.is_cover)
-        in
-        let many = length-map group.1 tree in
-        subst (λ n. n * part_least source ≤ text_long (tree_in OfRegion group)) many
-        (listed_long (codes "from") (member (codes "to") (target_chunk_tree group.0) (member (codes "whole") (boolean group.0.whole) no_members))
-        (part_least source) (map tree group.1) all)
+  abbrev target : List Dimension
+  target = target_dimensions copy
 
-  groups_long : (plan : PlanOf) (chunks : List (List ℕ)) (groups : List Group)
-      → AllZip (AreMovedInto source IsSourceKey target IsTargetKey region at) chunks groups → AllByRecursion (Meets target (moved at region)) chunks
-      → parts_in groups * part_least source ≤ texts (map (tree_in plan) groups)
-  groups_long plan [] [] are meet = omega arith
-  groups_long plan (chunk ∷ chunks) (group ∷ groups) are meet =
-      let here = group_long chunk group are.0 meet.0 plan in
-      let rest = groups_long plan chunks groups are.1 meet.1 in
-      let both : parts_in (group ∷ groups) * part_least source ≡ length group.1 * part_least source + parts_in groups * part_least source =
+  same_lengths : length target ≡ length source
+  same_lengths =
+      let from = within_long copy.region.start copy.region.shape (array_sizes source) has.can.in_source in
+      let into = within_long copy.at copy.region.shape (array_sizes target) has.can.in_target in
+      let one = length-map source (λ d. d.array_size) in
+      let other = length-map target (λ d. d.array_size) in
       omega arith
+
+  task_long : (plan : TaskPlan) → HasPartsOf copy plan → parts_of plan * part_least source ≤ text_long (task_tree plan)
+  task_long plan have =
+      let read = each_part source (IsKey copy.source.1) plan.0.source (overlap_tree false) (λ s part is meets. overlap_long is meets false)
+      (chunks_in have.reads.cover) plan.1.0 have.reads.are_parts (meet_each have.reads.is_cover)
       in
-      omega arith
-  groups_long plan _ _ are meet = absurd are
+      let written = each_part target (IsKey copy.target.1) plan.0.target (overlap_tree true) (λ s part is meets. overlap_long is meets true)
+      (chunks_in have.writes.cover) plan.1.1 have.writes.are_parts (meet_each have.writes.is_cover)
+      in
+      let same : part_least target ≡ part_least source = ap (λ n. 2 * (5 * n) + 1) same_lengths in
+      let many = length-map plan.1.0 (overlap_tree false) in
+      let also_many = length-map plan.1.1 (overlap_tree true) in
+      subst (λ n. n * part_least source ≤ text_long (task_tree plan)) (ap₂ (λ n m. n + m) many also_many)
+      (lists_of_two (codes "buffer") (codes "from") (codes "to") (numbers_tree plan.0.source.shape) (part_least source)
+      (map (overlap_tree false) plan.1.0) (map (overlap_tree true) plan.1.1) read
+      (subst (λ n. AreLong n (map (overlap_tree true) plan.1.1)) same written))
 
-  -- a page of groups with too many parts
-  pub long_groups : (plan : PlanOf) (chunks : List (List ℕ)) (groups : List Group) (too_many : ℕ) (more : Bool)
-      → AllZip (AreMovedInto source IsSourceKey target IsTargetKey region at) chunks groups → AllByRecursion (Meets target (moved at region)) chunks
-      → too_many ≤ parts_in groups → too_many * part_least source ≤ text_long (page_tree (map (tree_in plan) groups) more)
-  long_groups plan chunks groups too_many more are meet many =
-      let all = groups_long plan chunks groups are meet in
-      let page = page_long (map (tree_in plan) groups) more in
+  tasks_long : (plans : List TaskPlan) → AllByRecursion (HasPartsOf copy) plans → parts_in plans * part_least source ≤ texts (map task_tree plans)
+  tasks_long [] have = omega arith
+  tasks_long (plan ∷ plans) have =
+      let here = task_long plan have.0 in
+      let rest = tasks_long plans have.1 in
+      let both : parts_in (plan ∷ plans) * part_least source ≡ parts_of plan * part_least source + parts_in plans * part_least source = omega arith in
+      omega arith
+
+  -- a page of tasks with too many parts
+  pub long_tasks : (too_many : ℕ) (plans : List TaskPlan) (more : Bool) → AllByRecursion (HasPartsOf copy) plans → too_many ≤ parts_in plans
+      → too_many * part_least source ≤ text_long (page_tree (map task_tree plans) more)
+  long_tasks too_many plans more have many =
+      let all = tasks_long plans have in
+      let page = page_long (map task_tree plans) more in
       let least = part_least source in
-      let times : too_many * least ≤ parts_in groups * least = mul-le too_many least (parts_in groups) least many (omega arith) in
+      let times : too_many * least ≤ parts_in plans * least = mul-le too_many least (parts_in plans) least many (omega arith) in
       omega arith

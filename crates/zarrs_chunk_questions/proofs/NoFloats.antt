@@ -1,5 +1,5 @@
 -- No answer has a float: its numbers are sizes.
-use Rattle.std.proofs.Common.{◌≡◌, ◌∙◌, ◌||◌, ℕ, zero, suc, Bool, false, List, [], ◌∷◌, Option, Some, None, ap, ap₂, length, map, nat_lt, refl, take, arith}
+use Rattle.std.proofs.Common.{◌≡◌, ◌∙◌, ◌||◌, ℕ, zero, suc, Bool, false, true, List, [], ◌∷◌, Option, Some, None, ap, ap₂, length, map, nat_lt, refl, take, arith}
 use Rattle.std.proofs.lemmas.Bool.{or_parts}
 use Rattle.serde_json.specs.Data.{Data, Members}
 use Rattle.serde_json.specs.View.{items_of}
@@ -13,19 +13,16 @@ use Rattle.zarrs_chunks.proofs.NoFloats.{no_float_in_list, no_float_in_numbers, 
 use Rattle.zarrs_chunks.proofs.SeenGrids.{no_float_written}
 use Rattle.zarrs_chunks.specs.Walks.{boxed, chunks_of}
 use Rattle.zarrs_chunk_base.specs.Dimension.{Dimension}
-use Rattle.zarrs_chunk_plan.specs.Counted.{counted as counted_up_to}
-use Rattle.zarrs_chunk_plan.specs.Rechunking.{Group}
-use Rattle.zarrs_chunk_plan.specs.Region.{shifted}
+use Rattle.zarrs_chunk_plan.specs.Counted.{counted}
 use Rattle.zarrs_chunk_plan.specs.declared.bytes.ranges.ByteRanges.{ByteRanges}
-use Rattle.zarrs_chunk_plan.specs.declared.counts.of_plans.Counts.{Counts}
+use Rattle.zarrs_chunk_tasks.specs.Tasks.{TaskPlan}
+use Rattle.zarrs_chunk_tasks.specs.declared.counts.CountsAlong.{CountsAlong}
 use Rattle.zarrs_chunk_parts.specs.declared.part.Part.{Part}
 use Rattle.zarrs_chunk_questions.specs.Answers.{IsAnswer, IsArrayAnswer, IsBoxAnswer, IsGridAnswer, IsNumbersAnswer}
 use Rattle.zarrs_chunk_questions.specs.Bytes.{ranges_tree}
-use Rattle.zarrs_chunk_questions.specs.Counts.{counts_tree, line_number_tree}
-use Rattle.zarrs_chunk_questions.specs.Pages.{chunks_from, group_tree, is_more, item_tree, item_trees, count_of, page_tree, part_tree}
-use Rattle.zarrs_chunk_questions.specs.Pages.{parts_tree, source_tree, walk_page}
+use Rattle.zarrs_chunk_questions.specs.Pages.{count_of, is_more, item_tree, item_trees, page_tree, part_tree, parts_tree, some_from, walk_page}
 use Rattle.zarrs_chunk_questions.specs.Question.{Asked, Question, ShareAsked}
-use Rattle.zarrs_chunk_questions.specs.Regions.{moved_group_tree, moved_source_tree}
+use Rattle.zarrs_chunk_questions.specs.Tasks.{count_tree, counts_tree, number_tree, overlap_tree, task_tree}
 use Rattle.zarrs_chunk_questions.specs.Trees.{box_tree, numbers_tree, or_null}
 use Rattle.zarrs_chunk_questions.specs.declared.call.OfBox.{OfBox}
 use Rattle.zarrs_chunk_questions.specs.declared.call.OfGrid.{OfGrid}
@@ -88,7 +85,7 @@ of_a_walk walk ds most None =
     let all = item_trees walk ds (chunks_of ds) in
     of_page (take most all) (nat_lt most (length all)) (some_taken most all (items walk ds (chunks_of ds)))
 of_a_walk walk ds most (Some first) =
-    let chunks = chunks_from first most (chunks_of ds) in
+    let chunks = some_from first most (chunks_of ds) in
     of_page (item_trees walk ds chunks) (is_more first (length chunks) (count_of (chunks_of ds))) (items walk ds chunks)
 
 -- numbers and two boxes
@@ -101,33 +98,35 @@ of_some_parts first in_all parts =
     of_page (map part_tree parts) (is_more first (length parts) in_all)
     (no_float_mapped part_tree (λ part. of_part part.chunk.items part.in_chunk part.in_subset) parts)
 
-a_group : (group : Group) → HasNone (group_tree group)
-a_group group =
+of_overlap : (written : Bool) (part : Part) → HasNone (overlap_tree written part)
+of_overlap written part = grind (arith, no_float_in_numbers, a_box)
+
+of_task : (plan : TaskPlan) → HasNone (task_tree plan)
+of_task plan =
     rw (
-      no_float_mapped source_tree (λ part. of_part part.chunk.items part.in_chunk part.in_subset) group.1,
-      no_float_in_numbers group.0.chunk.items,
+      no_float_in_numbers plan.0.source.shape,
+      no_float_mapped (overlap_tree false) (of_overlap false) plan.1.0,
+      no_float_mapped (overlap_tree true) (of_overlap true) plan.1.1,
     ) refl
 
-a_moved_group : (group : Group) → HasNone (moved_group_tree group)
-a_moved_group group =
-    let first = group.0.in_chunk.start in
-    rw (
-      no_float_mapped (moved_source_tree first) (λ part. of_part part.chunk.items part.in_chunk (shifted first part.in_subset)) group.1,
-      no_float_in_numbers group.0.chunk.items,
-    ) refl
+of_tasks : (plans : List TaskPlan) (more : Bool) → HasNone (page_tree (map task_tree plans) more)
+of_tasks plans more = of_page (map task_tree plans) more (no_float_mapped task_tree of_task plans)
 
-a_line_number : (number : ℕ) → HasNone (line_number_tree number)
-a_line_number number = or_none size_tree (λ n. refl) (counted_up_to number)
+a_number : (number : ℕ) → HasNone (number_tree number)
+a_number number = or_none size_tree (λ n. refl) (counted number)
 
-of_counts : (share : ShareAsked) (many : Counts) → HasNone (counts_tree share many)
-of_counts share many = grind (arith, or_none, no_float_in_numbers, a_line_number)
+a_count : (count : CountsAlong → ℕ) (along : List CountsAlong) → HasNone (count_tree count along)
+a_count count along = no_float_mapped (λ counts. number_tree (count counts)) (λ counts. a_number (count counts)) along
+
+of_counts : (share : ShareAsked) (region : Box) (along : List CountsAlong) → HasNone (counts_tree share region along)
+of_counts share region along = grind (arith, a_count, no_float_in_numbers, a_number)
 
 -- ---- of a question
 
 of_an_array : (shape : List ℕ) (own : Data) (asked : Asked) (kind : GridKind) (grid : Grid) (t : Data) → IsArrayAnswer shape own asked kind grid t
     → HasNone t
 of_an_array shape own asked kind grid t is =
-    grind (arith, of_alone, of_list_of_numbers, of_a_box, of_a_walk, of_says, of_some_parts, of_page, of_counts, or_none, no_float_in_numbers, a_group, a_moved_group, no_float_mapped)
+    grind (arith, of_alone, of_list_of_numbers, of_a_box, of_a_walk, of_says, of_some_parts, of_tasks, of_counts, or_none, no_float_in_numbers)
 
 of_ranges : (ranges : ByteRanges) → HasNone (ranges_tree ranges)
 of_ranges ranges = rw (no_float_in_numbers ranges.counts.items, no_float_in_numbers ranges.strides.items) refl

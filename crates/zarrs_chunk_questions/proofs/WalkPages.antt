@@ -18,9 +18,9 @@ use Rattle.zarrs_chunks.specs.Walks.{box_at, boxed, chunks_in, chunks_of, counte
 use Rattle.zarrs_chunks.proofs.ChunksInBoxes.{length_below}
 use Rattle.zarrs_chunks.proofs.FittingChunks.{box_fits, box_is, found_box, found_none, no_box}
 use Rattle.zarrs_chunk_base.specs.ArraySubset.{Box}
-use Rattle.zarrs_chunk_plan.specs.Rechunking.{all_chunks_box}
+use Rattle.zarrs_chunk_plan.specs.ArrayBoxes.{all_chunks_box}
 use Rattle.zarrs_chunk_plan.proofs.Rechunkings.{counted_from_zeros}
-use Rattle.zarrs_chunk_questions.specs.Pages.{chunks_from, is_more, item_tree, item_trees, count_of, page_from, page_tree}
+use Rattle.zarrs_chunk_questions.specs.Pages.{some_from, is_more, item_tree, item_trees, count_of, page_from, page_tree}
 use Rattle.zarrs_chunk_questions.specs.declared.call.WalkOf.{WalkOf}
 use Rattle.zarrs_chunk_questions.specs.declared.call.WalkOf.TheVariants.{Boxes, Chunks, ChunksAndBoxes}
 use Rattle.zarrs_chunk_questions.specs.seen.Walked.{IsFirstPage, IsItemOf}
@@ -122,7 +122,7 @@ fewer_items walk ds few many xs le =
 -- the items of the chunk with a number
 pub item_of_number : (walk : WalkOf) (ds : List Dimension) (number : ℕ) (chunk : List ℕ) → number < count_of (chunks_of ds)
     → slice_get (chunks_of ds) number ≡ Some chunk → (result : Result (Option Value) AllocError) → IfOk result (IsItemOf walk ds chunk)
-    → IfOk result (λ found. map view (option_to_list found) ≡ item_trees walk ds (chunks_from number 1 (chunks_of ds)))
+    → IfOk result (λ found. map view (option_to_list found) ≡ item_trees walk ds (some_from number 1 (chunks_of ds)))
 item_of_number walk ds number chunk below at (Err _) is = tt
 item_of_number walk ds number chunk below at (Ok found) is = of_found found is ∙ ap (item_trees walk ds) (sym one) where
   taken_one : (n : ℕ) (xs : List (List ℕ)) → slice_get xs n ≡ Some chunk → take 1 (drop n xs) ≡ chunk ∷ []
@@ -130,7 +130,7 @@ item_of_number walk ds number chunk below at (Ok found) is = of_found found is �
   taken_one zero (x ∷ xs) is = ap (λ y. y ∷ []) (grind arith)
   taken_one (suc n) (x ∷ xs) is = taken_one n xs is
 
-  one : chunks_from number 1 (chunks_of ds) ≡ chunk ∷ []
+  one : some_from number 1 (chunks_of ds) ≡ chunk ∷ []
   one =
       let single : min (count_of (chunks_of ds) - number) 1 ≡ 1 = omega arith in
       ap (λ n. take n (drop number (chunks_of ds))) single ∙ taken_one number (chunks_of ds) at
@@ -152,11 +152,11 @@ module _ (walk : WalkOf) (ds : List Dimension) (first : ℕ) where
   items_until passed = item_trees walk ds (take passed (drop first (chunks_of ds)))
 
   pub items_more : (passed : ℕ) → first + passed < count_of (chunks_of ds)
-      → items_until (passed + 1) ≡ items_until passed ++ item_trees walk ds (chunks_from (first + passed) 1 (chunks_of ds))
+      → items_until (passed + 1) ≡ items_until passed ++ item_trees walk ds (some_from (first + passed) 1 (chunks_of ds))
   items_more passed below =
       let all = chunks_of ds in
       let one : min (count_of all - (first + passed)) 1 ≡ 1 = omega arith in
-      let next : chunks_from (first + passed) 1 all ≡ take 1 (drop passed (drop first all)) =
+      let next : some_from (first + passed) 1 all ≡ take 1 (drop passed (drop first all)) =
       ap (λ n. take n (drop (first + passed) all)) one ∙ ap (take 1) (sym (drop-drop first passed all)) in
       ap (item_trees walk ds) (take_one_more passed (drop first all)) ∙ items_append walk ds (take passed (drop first all)) _
       ∙ ap (λ xs. items_until passed ++ item_trees walk ds xs) (sym next)
@@ -176,7 +176,7 @@ module _ (walk : WalkOf) (ds : List Dimension) (first : ℕ) where
   -- too many of some are too many of all
   pub too_many_items : (most passed many too_many : ℕ) (items : List Data) → passed + 1 ≤ min (count_of (chunks_of ds) - first) most
       → items ≡ items_until (passed + 1) → many ≡ length items → many ≡ too_many
-      → too_many ≤ length (item_trees walk ds (chunks_from first most (chunks_of ds)))
+      → too_many ≤ length (item_trees walk ds (some_from first most (chunks_of ds)))
   too_many_items most passed many too_many items within are counted full =
       let fewer = fewer_items walk ds (passed + 1) (min (count_of (chunks_of ds) - first) most) (drop first (chunks_of ds)) within in
       let long = ap length are in

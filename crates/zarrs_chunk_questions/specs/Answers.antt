@@ -26,11 +26,10 @@ use Rattle.zarrs_chunks.specs.Subsets.{AnswersChunksSubset, AnswersCover, Answer
 use Rattle.zarrs_chunks.specs.declared.location.Located.{Located}
 use Rattle.zarrs_chunk_questions.specs.Bytes.{IsBytesAnswer}
 use Rattle.zarrs_chunk_questions.specs.Changed.{IsChangedAnswer}
-use Rattle.zarrs_chunk_questions.specs.Counts.{IsSomeCountsAnswer}
-use Rattle.zarrs_chunk_questions.specs.Pages.{IsSomeCopiesAnswer, IsSomePartsAnswer, walk_tree}
-use Rattle.zarrs_chunk_questions.specs.Question.{Asked, Question, byte_ranges, changed_chunks, copies, copies_of_region, counted, counts, counts_of_region, decode, encode}
-use Rattle.zarrs_chunk_questions.specs.Question.{located, of_array, of_box, of_grid, of_numbers, of_walk, parts, runs}
-use Rattle.zarrs_chunk_questions.specs.Regions.{IsSomeRegionCopiesAnswer, IsSomeRegionCountsAnswer}
+use Rattle.zarrs_chunk_questions.specs.Pages.{IsSomePartsAnswer, walk_tree}
+use Rattle.zarrs_chunk_questions.specs.Question.{Asked, Question, byte_ranges, changed_chunks, counted, decode, encode, located, of_array, of_box}
+use Rattle.zarrs_chunk_questions.specs.Question.{of_grid, of_numbers, of_walk, parts, runs, task_counts, tasks}
+use Rattle.zarrs_chunk_questions.specs.Tasks.{IsSomeTasksAnswer, IsTaskCountsAnswer}
 use Rattle.zarrs_chunk_questions.specs.Trees.{Says, box_of, box_tree, numbers_tree, or_null}
 use Rattle.zarrs_chunk_questions.specs.declared.call.OfBox.{OfBox}
 use Rattle.zarrs_chunk_questions.specs.declared.call.OfBox.TheVariants.{ChunksInArraySubset, ChunksSubset}
@@ -140,10 +139,8 @@ IsArrayAnswer shape own (counted index) kind grid t = (kind ≡ rectilinear) × 
 IsArrayAnswer shape own (located tree index) kind grid t =
     (encoding : Encoding) × IsEncodingIn tree encoding × IsLocatedAnswer grid encoding index t
 IsArrayAnswer shape own (parts tree items lists) kind grid t = IsSomePartsAnswer tree items lists grid t
-IsArrayAnswer shape own (copies tree target items chunks) kind grid t = IsSomeCopiesAnswer shape tree target items chunks grid t
-IsArrayAnswer shape own (counts tree target share chunks) kind grid t = IsSomeCountsAnswer shape tree target share chunks grid t
-IsArrayAnswer shape own (copies_of_region tree target items region) kind grid t = IsSomeRegionCopiesAnswer tree target items region grid t
-IsArrayAnswer shape own (counts_of_region tree target share region) kind grid t = IsSomeRegionCountsAnswer tree target share region grid t
+IsArrayAnswer shape own (tasks tree copy items) kind grid t = IsSomeTasksAnswer shape tree copy items grid t
+IsArrayAnswer shape own (task_counts tree copy share) kind grid t = IsTaskCountsAnswer shape tree copy share grid t
 IsArrayAnswer shape own (changed_chunks resize) kind grid t = IsChangedAnswer own resize grid t
 
 -- The answer of a question.

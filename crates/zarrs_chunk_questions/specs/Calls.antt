@@ -1,6 +1,6 @@
 -- The calls that a question may name, one row a call.
--- Source: the names are those of zarrs, but for `locate`, `parts`, `copies`, `counts`, `copies_of_region`, `counts_of_region`,
--- `changed_chunks`, `byte_ranges`, `runs` and `chunk_indices_counted`, which are this library's own.
+-- Source: the names are those of zarrs, but for `locate`, `parts`, `tasks`, `task_counts`, `changed_chunks`, `byte_ranges`, `runs` and
+-- `chunk_indices_counted`, which are this library's own.
 use Rattle.std.specs.Prelude.{◌≡◌, ◌≢◌, ℕ, List, Option, Some, None, codes}
 use Rattle.zarrs_chunk_questions.specs.declared.call.Call.{Call}
 use Rattle.zarrs_chunk_questions.specs.declared.call.Call.TheVariants as call
@@ -55,10 +55,8 @@ array_call of_array.Runs = codes "runs"
 array_call of_array.ChunkIndicesCounted = codes "chunk_indices_counted"
 array_call of_array.Locate = codes "locate"
 array_call of_array.Parts = codes "parts"
-array_call of_array.Copies = codes "copies"
-array_call of_array.Counts = codes "counts"
-array_call of_array.CopiesOfRegion = codes "copies_of_region"
-array_call of_array.CountsOfRegion = codes "counts_of_region"
+array_call of_array.Tasks = codes "tasks"
+array_call of_array.TaskCounts = codes "task_counts"
 array_call of_array.ChangedChunks = codes "changed_chunks"
 
 -- the name of a call

@@ -3,12 +3,11 @@ pub mod Answers
 pub mod Bytes
 pub mod Calls
 pub mod Changed
-pub mod Counts
 pub mod Order
 pub mod Pages
 pub mod Question
 pub mod Reading
 pub mod Refused
-pub mod Regions
+pub mod Tasks
 pub mod Trees
 pub mod seen

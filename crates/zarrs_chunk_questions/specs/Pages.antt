@@ -1,26 +1,20 @@
--- Some items of a walk and of a plan.
+-- Some items of a walk and of the plan of a read.
 -- Sources: Zarr V3 core, chunk grids, chunk key encodings and row-major ("C") order; the pages are this library's own.
-use Rattle.std.specs.Prelude.{◌≡◌, ◌≢◌, ◌⊎◌, ℕ, ◌+◌, ◌-◌, Bool, IfSome, List, [], ◌∷◌, drop, length, map, min, codes, nat_lt, take, unwrap_or}
-use Rattle.std.specs.Prelude.{Option, Some, None, Result, Ok}
-use Rattle.std.specs.List.{AllZip}
+use Rattle.std.specs.Prelude.{◌≡◌, ◌⊎◌, ℕ, ◌+◌, ◌-◌, Bool, List, [], ◌∷◌, drop, length, map, min, codes, nat_lt, take, unwrap_or}
+use Rattle.std.specs.Prelude.{Option, Some, None}
 use Rattle.serde_json.specs.Data.{Data, array, boolean, member, no_members, null, object, string}
 use Rattle.serde_json.specs.View.{items_of}
-use Rattle.zarrs_chunk_base.specs.ArraySubset.{Box, IsBox, IsEmptyBox, IsInside, lasts}
+use Rattle.zarrs_chunk_base.specs.ArraySubset.{Box, IsBox, IsEmptyBox, lasts}
 use Rattle.zarrs_chunk_base.specs.Dimension.{Dimension}
 use Rattle.zarrs_chunk_base.specs.Greatest.{greatest}
 use Rattle.zarrs_chunk_base.specs.Grid.{Grid}
-use Rattle.zarrs_chunk_base.specs.declared.incompatible_dimensionality_error.IncompatibleDimensionalityError.{IncompatibleDimensionalityError}
-use Rattle.zarrs_chunk_base.specs.declared.refusal.Refusal.{Refusal}
 use Rattle.zarrs_chunk_keys.specs.ChunkKey.{Encoding, IsKey}
 use Rattle.zarrs_chunk_keys.specs.KeyKinds.{IsEncodingIn}
-use Rattle.zarrs_chunks.specs.GridKinds.{GridKind, IsGridIn}
 use Rattle.zarrs_chunks.specs.Subsets.{HasNoHome}
 use Rattle.zarrs_chunks.specs.Walks.{box_at, boxed, chunks_of}
-use Rattle.zarrs_chunk_plan.specs.Rechunking.{Group, all_chunks_box, array_box}
-use Rattle.zarrs_chunk_plan.specs.SomeCopies.{AreSomeGroups}
 use Rattle.zarrs_chunk_plan.specs.SomeParts.{AreSomeParts}
 use Rattle.zarrs_chunk_parts.specs.declared.part.Part.{Part}
-use Rattle.zarrs_chunk_questions.specs.Question.{Items, Lists, Target}
+use Rattle.zarrs_chunk_questions.specs.Question.{Items, Lists}
 use Rattle.zarrs_chunk_questions.specs.Trees.{box_of, box_tree, numbers_tree}
 use Rattle.zarrs_chunk_questions.specs.declared.call.WalkOf.{WalkOf}
 use Rattle.zarrs_chunk_questions.specs.declared.call.WalkOf.TheVariants.{Boxes, Chunks, ChunksAndBoxes}
@@ -57,18 +51,18 @@ item_trees ChunksAndBoxes ds chunks = map (item_tree ChunksAndBoxes ds) (boxed d
 abbrev pub first_page : (most : ℕ) → List Data → Data
 first_page most items = page_tree (take most items) (nat_lt most (length items))
 
--- how many chunks there are, as far as a number counts them
-abbrev pub count_of : List (List ℕ) → ℕ
-count_of chunks = min (length chunks) greatest
+-- how many there are, as far as a number counts them
+abbrev pub count_of : {X : Type 0} → List X → ℕ
+count_of xs = min (length xs) greatest
 
--- at most so many of the chunks, from the one with this number on
-abbrev pub chunks_from : (first most : ℕ) → List (List ℕ) → List (List ℕ)
-chunks_from first most chunks = take (min (count_of chunks - first) most) (drop first chunks)
+-- at most so many of them, from the one with this number on
+abbrev pub some_from : {X : Type 0} → (first most : ℕ) → List X → List X
+some_from first most xs = take (min (count_of xs - first) most) (drop first xs)
 
 -- from the chunk with this number on: what the walk gives of at most so many chunks
 abbrev pub page_from : WalkOf → List Dimension → (first most : ℕ) → Data
 page_from walk ds first most =
-    let chunks = chunks_from first most (chunks_of ds) in
+    let chunks = some_from first most (chunks_of ds) in
     page_tree (item_trees walk ds chunks) (is_more first (length chunks) (count_of (chunks_of ds)))
 
 -- the page of a walk over the chunks that a grid counts, in row-major order
@@ -112,65 +106,3 @@ abbrev pub IsSomePartsAnswer : Data → Items → Lists → Grid → Data → Ty
 IsSomePartsAnswer tree items lists grid t =
     (encoding : Encoding) × IsEncodingIn tree encoding × IsBox (box_of lists)
     × IsPartsAnswer grid.dimensions (IsKey encoding) (box_of lists) (first_of items) items.most t
-
--- ---- of the plan of a rechunking
-
--- a chunk of the source, and the box of the chunk of the target that what is copied from it goes to
-abbrev pub placed_tree : Part → (in_target : Box) → Data
-placed_tree part in_target =
-    object (member (codes "chunk") (numbers_tree part.chunk.items)
-    (member (codes "in_chunk") (box_tree part.in_chunk)
-    (member (codes "in_target") (box_tree in_target)
-    (member (codes "key") (string part.key) no_members))))
-
--- in a rechunking that is the part's own box
-abbrev pub source_tree : Part → Data
-source_tree part = placed_tree part part.in_subset
-
--- a chunk of the target
-abbrev pub target_chunk_tree : Part → Data
-target_chunk_tree part = object (member (codes "chunk") (numbers_tree part.chunk.items) (member (codes "key") (string part.key) no_members))
-
-abbrev pub group_tree : Group → Data
-group_tree group =
-    object (member (codes "from") (array (items_of (map source_tree group.1))) (member (codes "to") (target_chunk_tree group.0) no_members))
-
--- at most so many groups, from the one with this number on; the box has as many dimensions as the target
-abbrev pub IsCopiesAnswer : (source : List Dimension) (IsSourceKey : List ℕ → List ℕ → Type 0)
-    (target : List Dimension) (IsTargetKey : List ℕ → List ℕ → Type 0) (chunks : Box) (first most : ℕ) → Data → Type 0
-IsCopiesAnswer source IsSourceKey target IsTargetKey chunks first most t =
-    (length chunks.start ≡ length target) × (in_all : ℕ) × (groups : List Group)
-    × AreSomeGroups source IsSourceKey target IsTargetKey (array_box target) (array_box target).start (IsInside chunks) first most in_all groups
-    × (t ≡ page_tree (map group_tree groups) (is_more first (length groups) in_all))
-
--- the chunks of the target: those of the box that is given, or all
-abbrev pub target_chunks : Option Lists → List Dimension → Box
-target_chunks (Some lists) ds = box_of lists
-target_chunks None ds = all_chunks_box ds
-
--- what is answered of two grids and the keys of their chunks, and of a box of the target's chunks
-abbrev pub OfTwoGrids : Type 1
-OfTwoGrids = (source : List Dimension) (IsSourceKey : List ℕ → List ℕ → Type 0) (target : List Dimension)
-    (IsTargetKey : List ℕ → List ℕ → Type 0) (chunks : Box) → Data → Type 0
-
--- The answer `t` to a question about a rechunking of an array of this shape that has this grid: its encoding, and the target's grid and encoding,
--- are made of the trees that the question gives.
-pub record IsRechunkingAnswer (Answers : OfTwoGrids) (shape : List ℕ) (tree : Data) (target : Target) (chunks : Option Lists) (grid : Grid)
-    (t : Data) : Type 0 where
-  pub encoding : Encoding
-  pub is_encoding : IsEncodingIn tree encoding
-  pub target_kind : GridKind
-  pub target_grid : Grid
-  pub is_target_grid : IsGridIn target.chunk_grid shape target_kind target_grid
-  pub target_encoding : Encoding
-  pub is_target_encoding : IsEncodingIn target.chunk_key_encoding target_encoding
-  pub is_box : IfSome chunks (λ lists. IsBox (box_of lists))
-  pub answers : Answers grid.dimensions (IsKey encoding) target_grid.dimensions (IsKey target_encoding)
-      (target_chunks chunks target_grid.dimensions) t
-
--- the answer to `copies`
-abbrev pub IsSomeCopiesAnswer : (shape : List ℕ) → Data → Target → Items → Option Lists → Grid → Data → Type 0
-IsSomeCopiesAnswer shape tree target items chunks grid =
-    IsRechunkingAnswer
-    (λ source IsSourceKey to IsTargetKey b. IsCopiesAnswer source IsSourceKey to IsTargetKey b (first_of items) items.most) shape tree target
-    chunks grid

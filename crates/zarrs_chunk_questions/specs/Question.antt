@@ -1,15 +1,17 @@
 -- What a line's tree asks.
 -- Source: Zarr V3 core, array metadata, for `shape`, `chunk_grid` and `chunk_key_encoding`; the other members are this library's own.
-use Rattle.std.specs.Prelude.{◌≡◌, ℕ, List, codes, cond, nat_lt, Option, Some, None, Ok, Err, option_and_then, unwrap_or}
+use Rattle.std.specs.Prelude.{◌≡◌, ℕ, List, bytes_eq, codes, cond, nat_lt, Option, Some, None, Ok, Err, option_and_then, unwrap_or}
 use Rattle.std.specs.Option.{ok_or}
 use Rattle.serde_json.specs.Data.{Data}
 use Rattle.serde_json.specs.Find.{as_object, as_str, get}
 use Rattle.zarrs_chunk_base.specs.Json.{edge_of, list_of, pair_of, size_of}
 use Rattle.zarrs_chunk_plan.specs.declared.bytes.ranges.MemoryOrder.{MemoryOrder}
 use Rattle.zarrs_chunk_plan.specs.declared.bytes.ranges.MemoryOrder.TheVariants.{C}
+use Rattle.zarrs_chunk_tasks.specs.declared.order.Order.{Order}
+use Rattle.zarrs_chunk_tasks.specs.declared.order.Order.TheVariants.{Source, Target}
 use Rattle.zarrs_chunk_questions.specs.Calls.{IsNamed}
 use Rattle.zarrs_chunk_questions.specs.Order.{order_in}
-use Rattle.zarrs_chunk_questions.specs.Reading.{Reading, in_form, missing, no_call, not_object, optional_in, required, required_in, then}
+use Rattle.zarrs_chunk_questions.specs.Reading.{Reading, in_form, missing, no_call, not_object, optional_in, optional_value, required, required_in, then}
 use Rattle.zarrs_chunk_questions.specs.Reading.{wrong_value}
 use Rattle.zarrs_chunk_questions.specs.declared.call.Call.{Call}
 use Rattle.zarrs_chunk_questions.specs.declared.call.Call.TheVariants as call
@@ -29,22 +31,22 @@ pub record Items : Type 0 where
   pub most : ℕ
   pub first : Option ℕ
 
--- how an array is to be stored: the trees of a grid's and an encoding's metadata
-pub record Target : Type 0 where
+-- the array that elements are copied to: its shape, if one is given, and the trees of a grid's and an encoding's metadata
+pub record TargetArray : Type 0 where
+  pub shape : Option (List ℕ)
   pub chunk_grid : Data
   pub chunk_key_encoding : Data
 
--- the array that a region goes to: its shape, and how it is to be stored
-pub record TargetArray : Type 0 where
-  pub shape : List ℕ
-  pub stored : Target
-
--- a region: a box of the array's elements, and the index in the target's array that it begins at, where one is given
-pub record RegionAsked : Type 0 where
-  pub elements : Lists
+-- A copy: the target; a box of the array's elements, and the index in the target's array that it begins at; how many neighbouring chunks a task takes,
+-- each if it is given; and of which of the two arrays.
+pub record CopyAsked : Type 0 where
+  pub target : TargetArray
+  pub subset : Option Lists
   pub at : Option (List ℕ)
+  pub task_chunks : Option (List ℕ)
+  pub order : Order
 
--- a share of a plan: its number, counted from 0, and how many there are
+-- a share of the tasks: its number, counted from 0, and how many there are
 abbrev pub ShareAsked : Type 0
 ShareAsked = ℕ × ℕ
 
@@ -65,10 +67,8 @@ pub data Asked : Type 0 where
   counted : (index : List ℕ) → Asked
   located : (encoding : Data) (index : List ℕ) → Asked
   parts : (encoding : Data) (items : Items) (b : Lists) → Asked
-  copies : (encoding : Data) (target : Target) (items : Items) (chunks : Option Lists) → Asked
-  counts : (encoding : Data) (target : Target) (share : ShareAsked) (chunks : Option Lists) → Asked
-  copies_of_region : (encoding : Data) (target : TargetArray) (items : Items) (region : RegionAsked) → Asked
-  counts_of_region : (encoding : Data) (target : TargetArray) (share : ShareAsked) (region : RegionAsked) → Asked
+  tasks : (encoding : Data) (copy : CopyAsked) (items : Items) → Asked
+  task_counts : (encoding : Data) (copy : CopyAsked) (share : ShareAsked) → Asked
   changed_chunks : (resize : List ℕ) → Asked
 
 -- what is asked: of the grid of an array with this shape, of which the tree is the metadata; the key of a chunk; the chunk of a key; or of a chunk's
@@ -79,12 +79,11 @@ pub data Question : Type 0 where
   decode : (encoding : Data) (key : List ℕ) (dimensionality : ℕ) → Question
   byte_ranges : (asked : BytesAsked) → Question
 
--- the items that are asked for, if some items of a walk or of a plan are
+-- the items that are asked for, if some items of a walk, of a plan or of tasks are
 abbrev pub items_asked : Question → Option Items
 items_asked (of_array shape chunk_grid (of_walk walk items)) = Some items
 items_asked (of_array shape chunk_grid (parts encoding items b)) = Some items
-items_asked (of_array shape chunk_grid (copies encoding target items chunks)) = Some items
-items_asked (of_array shape chunk_grid (copies_of_region encoding target items region)) = Some items
+items_asked (of_array shape chunk_grid (tasks encoding copy items)) = Some items
 items_asked _ = None
 
 -- ---- how it is read, and the first fault of a tree that asks nothing
@@ -109,35 +108,38 @@ of_target field path target = ok_or (get field target) (missing path)
 abbrev pub target_object_in : Data → Reading Data
 target_object_in d = then (required (codes "target") d) (λ target. then (in_form as_object (codes "target") target) (λ _. Ok target))
 
--- how it is to be stored
-abbrev pub stored_in : Data → Reading Target
-stored_in target =
-    then (of_target (codes "chunk_grid") (codes "target.chunk_grid") target) (λ grid.
-    then (of_target (codes "chunk_key_encoding") (codes "target.chunk_key_encoding") target) (λ encoding.
-    Ok (record { chunk_grid = grid; chunk_key_encoding = encoding })))
+-- its shape, if it has one
+abbrev pub target_shape_in : Data → Reading (Option (List ℕ))
+target_shape_in target = optional_value (list_of size_of) (codes "target.shape") (get (codes "shape") target)
 
-abbrev pub target_in : Data → Reading Target
-target_in d = then (target_object_in d) stored_in
-
--- a target that is another array: one that has a shape of its own
-abbrev pub target_shape_in : Data → Reading (List ℕ)
-target_shape_in target =
-    then (of_target (codes "shape") (codes "target.shape") target) (in_form (list_of size_of) (codes "target.shape"))
-
-abbrev pub target_array_in : Data → Reading TargetArray
-target_array_in d =
+abbrev pub target_in : Data → Reading TargetArray
+target_in d =
     then (target_object_in d) (λ target.
     then (target_shape_in target) (λ sizes.
-    then (stored_in target) (λ stored.
-    Ok (record { shape = sizes; stored = stored }))))
+    then (of_target (codes "chunk_grid") (codes "target.chunk_grid") target) (λ grid.
+    then (of_target (codes "chunk_key_encoding") (codes "target.chunk_key_encoding") target) (λ encoding.
+    Ok (record { shape = sizes; chunk_grid = grid; chunk_key_encoding = encoding })))))
 
-abbrev pub region_in : Data → Reading RegionAsked
-region_in d =
-    then (lists_in (codes "subset") d) (λ elements.
+-- the array that a text names
+abbrev pub named_order : List ℕ → Option Order
+named_order text = cond (bytes_eq text (codes "target")) (Some Target) (cond (bytes_eq text (codes "source")) (Some Source) None)
+
+-- of which array tasks take chunks: of the target, where that isn't given
+abbrev pub task_order_in : Data → Reading Order
+task_order_in d =
+    then (optional_in (λ text. option_and_then named_order (as_str text)) (codes "order") d) (λ order.
+    Ok (unwrap_or order Target))
+
+-- what is copied to a target, and by which tasks
+abbrev pub copy_in : TargetArray → Data → Reading CopyAsked
+copy_in target d =
+    then (optional_in (pair_of (list_of size_of)) (codes "subset") d) (λ subset.
     then (optional_in (list_of size_of) (codes "at") d) (λ at.
-    Ok (record { elements = elements; at = at })))
+    then (optional_in (list_of edge_of) (codes "task_chunks") d) (λ each.
+    then (task_order_in d) (λ order.
+    Ok (record { target = target; subset = subset; at = at; task_chunks = each; order = order })))))
 
--- the one share that is the whole plan, where none is given; a share's number is below how many there are
+-- the one share that has all, where none is given; a share's number is below how many there are
 abbrev pub one_of : Option ShareAsked → Reading ShareAsked
 one_of None = Ok (0, 1)
 one_of (Some share) = cond (nat_lt share.0 share.1) (Ok share) (Err (wrong_value (codes "share")))
@@ -162,30 +164,18 @@ asked_in array.Parts d =
     then (items_in d) (λ items.
     then (lists_in (codes "of") d) (λ b.
     Ok (parts encoding items b))))
-asked_in array.Copies d =
+asked_in array.Tasks d =
     then (encoding_in d) (λ encoding.
     then (target_in d) (λ target.
     then (items_in d) (λ items.
-    then (optional_in (pair_of (list_of size_of)) (codes "chunks") d) (λ chunks.
-    Ok (copies encoding target items chunks)))))
-asked_in array.Counts d =
+    then (copy_in target d) (λ copy.
+    Ok (tasks encoding copy items)))))
+asked_in array.TaskCounts d =
     then (encoding_in d) (λ encoding.
     then (target_in d) (λ target.
     then (share_in d) (λ share.
-    then (optional_in (pair_of (list_of size_of)) (codes "chunks") d) (λ chunks.
-    Ok (counts encoding target share chunks)))))
-asked_in array.CopiesOfRegion d =
-    then (encoding_in d) (λ encoding.
-    then (target_array_in d) (λ target.
-    then (items_in d) (λ items.
-    then (region_in d) (λ region.
-    Ok (copies_of_region encoding target items region)))))
-asked_in array.CountsOfRegion d =
-    then (encoding_in d) (λ encoding.
-    then (target_array_in d) (λ target.
-    then (share_in d) (λ share.
-    then (region_in d) (λ region.
-    Ok (counts_of_region encoding target share region)))))
+    then (copy_in target d) (λ copy.
+    Ok (task_counts encoding copy share)))))
 asked_in array.ChangedChunks d = then (required_in (list_of size_of) (codes "resize") d) (λ resize. Ok (changed_chunks resize))
 
 -- the text of a member, if it has one

@@ -1,6 +1,6 @@
 -- Why a question has no answer: the first reason that applies.
 -- Sources: Zarr V3 core, chunk grids and chunk key encodings; the order is this library's own.
-use Rattle.std.specs.Prelude.{◌≡◌, ◌≢◌, ◌⊎◌, ℕ, IfSome, List, length, string_bytes, codes, Err, Option, Some, None, Result}
+use Rattle.std.specs.Prelude.{◌≡◌, ◌≢◌, ◌⊎◌, ℕ, List, length, string_bytes, codes, unwrap_or, Err, Option, Some, None, Result}
 use Rattle.serde_json.specs.Data.{Data}
 use Rattle.zarrs_chunk_base.specs.ArraySubset.{Box, IsBox, IsEmptyBox}
 use Rattle.zarrs_chunk_base.specs.ArraySubsetError.{IsBoxFault}
@@ -16,23 +16,21 @@ use Rattle.zarrs_chunk_keys.specs.ChunkKey.{Encoding}
 use Rattle.zarrs_chunk_keys.specs.KeyKinds.{IsEncodingIn, IsNoEncodingIn}
 use Rattle.zarrs_chunks.specs.GridKinds.{GridKind, IsGridIn, IsNoGridIn, rectilinear}
 use Rattle.zarrs_chunks.specs.Subsets.{AnswersChunksSubset}
-use Rattle.zarrs_chunk_plan.specs.Region.{IsRegionFault}
-use Rattle.zarrs_chunk_plan.specs.seen.Copies.{IsCopiesFault}
+use Rattle.zarrs_chunk_plan.specs.Region.{moved}
+use Rattle.zarrs_chunk_tasks.specs.Few.{HaveMany, most_to_count}
+use Rattle.zarrs_chunk_tasks.specs.Tasks.{IsTasksFault}
 use Rattle.zarrs_chunk_questions.specs.Answers.{AnswersCoverOf}
-use Rattle.zarrs_chunk_questions.specs.Pages.{target_chunks}
-use Rattle.zarrs_chunk_questions.specs.Question.{Asked, BytesAsked, Lists, Question, RegionAsked, Target, TargetArray, byte_ranges, changed_chunks, copies}
-use Rattle.zarrs_chunk_questions.specs.Question.{copies_of_region, counted}
-use Rattle.zarrs_chunk_questions.specs.Question.{counts, counts_of_region, decode, encode, located, of_array, of_box, of_grid, of_numbers}
-use Rattle.zarrs_chunk_questions.specs.Question.{of_walk, parts, runs}
-use Rattle.zarrs_chunk_questions.specs.Regions.{begins_at}
+use Rattle.zarrs_chunk_questions.specs.Question.{Asked, BytesAsked, CopyAsked, Lists, Question, byte_ranges, changed_chunks, counted, decode, encode}
+use Rattle.zarrs_chunk_questions.specs.Question.{located, of_array, of_box, of_grid, of_numbers, of_walk, parts, runs, task_counts, tasks}
+use Rattle.zarrs_chunk_questions.specs.Tasks.{Copy, IsCopyAsked, source_dimensions, target_dimensions}
 use Rattle.zarrs_chunk_questions.specs.Trees.{box_of}
 use Rattle.zarrs_chunk_questions.specs.declared.call.OfBox.{OfBox}
 use Rattle.zarrs_chunk_questions.specs.declared.call.OfBox.TheVariants.{ChunksInArraySubset, ChunksSubset}
 use Rattle.zarrs_chunk_questions.specs.declared.call.OfNumbers.{OfNumbers}
 use Rattle.zarrs_chunk_questions.specs.declared.call.OfNumbers.TheVariants.{ArrayIndicesInbounds, ChunkIndicesInbounds}
 use Rattle.zarrs_chunk_questions.specs.declared.line_fault.LineFault.{LineFault}
-use Rattle.zarrs_chunk_questions.specs.declared.line_fault.LineFault.TheVariants.{Copies, Extension, Key, Lengths, NotBox, Region}
-use Rattle.zarrs_chunk_questions.specs.declared.line_fault.LineFault.TheVariants.{ResizedExtension, TargetExtension, Unreadable}
+use Rattle.zarrs_chunk_questions.specs.declared.line_fault.LineFault.TheVariants.{Extension, Key, Lengths, NotBox, ResizedExtension}
+use Rattle.zarrs_chunk_questions.specs.declared.line_fault.LineFault.TheVariants.{TargetExtension, Tasks, TooManyToCount, Unreadable}
 use Rattle.zarrs_chunk_questions.specs.declared.unreadable.Unreadable.TheVariants.{NoCall}
 
 -- the fault tells that so many numbers were given, and others expected
@@ -104,56 +102,41 @@ abbrev pub IsOfTarget : (LineFault → Type 0) → LineFault → Type 0
 IsOfTarget IsFault (TargetExtension error) = IsFault (Extension error)
 IsOfTarget _ _ = ⊥
 
--- the library refuses the rechunking
-abbrev pub IsNoRechunking : (source target : List Dimension) (chunks : Box) → LineFault → Type 0
-IsNoRechunking source target chunks (Copies error) =
-    IsCopiesFault (array_sizes source) (array_sizes target) (length chunks.start) (length target) error
-IsNoRechunking _ _ _ _ = ⊥
-
 -- the start and the shape that are given make no box
 abbrev pub IsNoBoxOf : Option Lists → LineFault → Type 0
 IsNoBoxOf (Some lists) fault = IsNoBox (box_of lists) fault
 IsNoBoxOf None fault = ⊥
 
--- why nothing is copied into the chunks that are asked for: they are no box; or the library refuses
-abbrev pub IsChunksRefusal : (source target : List Dimension) → Option Lists → LineFault → Type 0
-IsChunksRefusal source target chunks fault =
-    IsNoBoxOf chunks fault
-    ⊎ (IfSome chunks (λ lists. IsBox (box_of lists)) × IsNoRechunking source target (target_chunks chunks target) fault)
+-- Why the copy that is asked for can't be made: there is no encoding of the array; the target's grid can't be made; its encoding can't; or the box can't.
+abbrev pub IsNoTarget : (shape : List ℕ) → CopyAsked → LineFault → Type 0
+IsNoTarget shape asked fault =
+    IsOfTarget (IsNoGrid asked.target.chunk_grid shape) fault
+    ⊎ ((kind : GridKind) × (to : Grid) × IsGridIn asked.target.chunk_grid shape kind to
+    × (IsOfTarget (IsNoEncoding asked.target.chunk_key_encoding) fault
+    ⊎ ((encoding : Encoding) × IsEncodingIn asked.target.chunk_key_encoding encoding × IsNoBoxOf asked.subset fault)))
 
--- the library refuses the copy of the region
-abbrev pub IsNoRegionCopy : (source target : List Dimension) (region : Box) (at : List ℕ) → LineFault → Type 0
-IsNoRegionCopy source target region at (Region error) = IsRegionFault (array_sizes source) (array_sizes target) region at error
-IsNoRegionCopy _ _ _ _ _ = ⊥
-
--- why nothing is copied of the region that is asked for: it is no box; or the library refuses
-abbrev pub IsRegionRefusal : (source target : List Dimension) → RegionAsked → LineFault → Type 0
-IsRegionRefusal source target region fault =
-    IsNoBox (box_of region.elements) fault
-    ⊎ (IsBox (box_of region.elements) × IsNoRegionCopy source target (box_of region.elements) (begins_at region) fault)
-
--- why nothing is copied to a target of an array of this shape: its grid can't be made; its encoding can't; or why nothing is copied to that grid
-abbrev pub IsTargetRefusal : (IsRefused : List Dimension → LineFault → Type 0) (shape : List ℕ) → Target → LineFault → Type 0
-IsTargetRefusal IsRefused shape target fault =
-    IsOfTarget (IsNoGrid target.chunk_grid shape) fault
-    ⊎ ((kind : GridKind) × (to : Grid) × IsGridIn target.chunk_grid shape kind to
-    × (IsOfTarget (IsNoEncoding target.chunk_key_encoding) fault
-    ⊎ ((encoding : Encoding) × IsEncodingIn target.chunk_key_encoding encoding × IsRefused to.dimensions fault)))
-
--- there is no encoding of the array; or nothing is copied to the target
-abbrev pub IsPlanRefusal : (IsRefused : List Dimension → LineFault → Type 0) (shape : List ℕ) → Data → Target → LineFault → Type 0
-IsPlanRefusal IsRefused shape tree target fault =
+abbrev pub IsNoCopy : (shape : List ℕ) → Data → CopyAsked → LineFault → Type 0
+IsNoCopy shape tree asked fault =
     IsNoEncoding tree fault
-    ⊎ ((encoding : Encoding) × IsEncodingIn tree encoding × IsTargetRefusal IsRefused shape target fault)
+    ⊎ ((encoding : Encoding) × IsEncodingIn tree encoding × IsNoTarget (unwrap_or asked.target.shape shape) asked fault)
 
--- so of a rechunking, whose target is of the array's shape
-abbrev pub IsSomeCopiesRefusal : (shape : List ℕ) → Data → Target → Option Lists → Grid → LineFault → Type 0
-IsSomeCopiesRefusal shape tree target chunks grid = IsPlanRefusal (λ to. IsChunksRefusal grid.dimensions to chunks) shape tree target
+-- it can't be made; or the library refuses it
+abbrev pub IsCopyRefusal : (Copy → LineFault → Type 0) → (shape : List ℕ) → Data → CopyAsked → Grid → LineFault → Type 0
+IsCopyRefusal IsRefused shape tree asked grid fault =
+    IsNoCopy shape tree asked fault ⊎ ((copy : Copy) × IsCopyAsked shape tree asked grid copy × IsRefused copy fault)
 
--- and of the copy of a region, whose target is an array with a shape of its own
-abbrev pub IsSomeRegionRefusal : Data → TargetArray → RegionAsked → Grid → LineFault → Type 0
-IsSomeRegionRefusal tree target region grid =
-    IsPlanRefusal (λ to. IsRegionRefusal grid.dimensions to region) target.shape tree target.stored
+-- the copy has no tasks
+abbrev pub HasNoTasks : Copy → LineFault → Type 0
+HasNoTasks copy (Tasks error) =
+    IsTasksFault (array_sizes (source_dimensions copy)) (array_sizes (target_dimensions copy)) copy.region copy.at copy.each error
+HasNoTasks _ _ = ⊥
+
+-- they aren't counted: it has none, or there are too many chunks
+abbrev pub HasNoCounts : Copy → LineFault → Type 0
+HasNoCounts copy fault =
+    HasNoTasks copy fault
+    ⊎ ((fault ≡ TooManyToCount)
+    × HaveMany most_to_count (source_dimensions copy) (target_dimensions copy) copy.region (moved copy.at copy.region))
 
 -- it is the fault of the grid of the new shape
 abbrev pub IsOfResize : (LineFault → Type 0) → LineFault → Type 0
@@ -176,10 +159,8 @@ IsArrayRefusal shape own (counted index) kind grid fault =
     IsNotOfKind (codes "chunk_indices_counted") kind fault ⊎ ((kind ≡ rectilinear) × IsLengthFault (length index) (length grid.dimensions) fault)
 IsArrayRefusal shape own (located tree index) kind grid fault = IsLocatedRefusal tree (length index) (length grid.dimensions) fault
 IsArrayRefusal shape own (parts tree items lists) kind grid fault = IsSomePartsRefusal tree lists grid fault
-IsArrayRefusal shape own (copies tree target items chunks) kind grid fault = IsSomeCopiesRefusal shape tree target chunks grid fault
-IsArrayRefusal shape own (counts tree target share chunks) kind grid fault = IsSomeCopiesRefusal shape tree target chunks grid fault
-IsArrayRefusal shape own (copies_of_region tree target items region) kind grid fault = IsSomeRegionRefusal tree target region grid fault
-IsArrayRefusal shape own (counts_of_region tree target share region) kind grid fault = IsSomeRegionRefusal tree target region grid fault
+IsArrayRefusal shape own (tasks tree copy items) kind grid fault = IsCopyRefusal HasNoTasks shape tree copy grid fault
+IsArrayRefusal shape own (task_counts tree copy share) kind grid fault = IsCopyRefusal HasNoCounts shape tree copy grid fault
 IsArrayRefusal shape own (changed_chunks resize) kind grid fault = IsChangedRefusal own resize fault
 
 -- why nothing is told of a chunk's bytes: the start and the shape make no box; or the box has another number of dimensions than the chunk

@@ -2,5 +2,4 @@ pub mod Read
 pub mod Lines
 pub mod Found
 pub mod Walked
-pub mod Targets
-pub mod Groups
+pub mod Copies

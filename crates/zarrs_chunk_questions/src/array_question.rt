@@ -1,5 +1,5 @@
 //! What is asked of the grid of an array, and what answers it.
-ghost use Rattle.std.specs.Prelude.{◌≡◌, ◌+◌, Err, IfOk, IsSome, MatchResult, None, Ok, Some, length, option_map};
+ghost use Rattle.std.specs.Prelude.{◌≡◌, ◌+◌, Err, IfOk, IsSome, MatchResult, None, Ok, Some, length};
 ghost use Rattle.serde_json.specs.View.{view};
 ghost use Rattle.zarrs_chunk_base.specs.Refusal.{OrMemory};
 ghost use Rattle.zarrs_chunk_keys.specs.ChunkKey.{Encoding};
@@ -7,26 +7,25 @@ ghost use Rattle.zarrs_chunk_keys.specs.KeyKinds.{IsEncodingIn};
 ghost use Rattle.zarrs_chunks.specs.GridKinds.{IsGridIn};
 ghost use Rattle.zarrs_chunks.specs.seen.Grids.{grid_in, kind_in};
 ghost use Rattle.zarrs_chunk_questions.specs.Answers.{IsArrayAnswer, IsLocatedAnswer};
-ghost use Rattle.zarrs_chunk_questions.specs.Counts.{IsSomeCountsAnswer};
-ghost use Rattle.zarrs_chunk_questions.specs.Pages.{IsSomeCopiesAnswer, IsSomePartsAnswer, walk_tree};
+ghost use Rattle.zarrs_chunk_questions.specs.Pages.{IsSomePartsAnswer, walk_tree};
 ghost use Rattle.zarrs_chunk_questions.specs.Question.{items_asked, of_array};
-ghost use Rattle.zarrs_chunk_questions.specs.Refused.{IsArrayRefusal, IsLocatedRefusal, IsSomeCopiesRefusal, IsSomePartsRefusal, IsSomeRegionRefusal};
-ghost use Rattle.zarrs_chunk_questions.specs.Regions.{IsSomeRegionCopiesAnswer, IsSomeRegionCountsAnswer};
+ghost use Rattle.zarrs_chunk_questions.specs.Refused.{HasNoCounts, HasNoTasks, IsArrayRefusal, IsCopyRefusal, IsLocatedRefusal, IsSomePartsRefusal};
+ghost use Rattle.zarrs_chunk_questions.specs.Tasks.{IsSomeTasksAnswer, IsTaskCountsAnswer};
 ghost use Rattle.zarrs_chunk_questions.specs.seen.Lines.{IsGiven};
-ghost use Rattle.zarrs_chunk_questions.specs.seen.Read.{asked_of, items_of, lists_of, region_of, share_of, target_array_of, target_of};
+ghost use Rattle.zarrs_chunk_questions.specs.seen.Read.{asked_of, copy_asked_of, items_of, lists_of, share_of};
 
-use crate::asked::{Asked, Items, Lists, RegionAsked, Target, TargetArray};
+use crate::asked::{Asked, CopyAsked, Items, Lists};
 use crate::call::WalkOf;
 use crate::changed::answer_changed;
-use crate::counting::{counts_of_copies, counts_of_moves};
+use crate::copying::Copying;
+use crate::counting::counts_of;
 use crate::extensions::{box_of, make_encoding};
 use crate::grid_answers::{answer_alone, answer_box, answer_numbers};
 use crate::limits::Limits;
 use crate::line_fault::LineFault;
 use crate::pages::{items_from, parts_from};
-use crate::rechunking::{Rechunking, copies_from};
 use crate::rectilinear_answers::{answer_counted, answer_runs, expect_rectilinear};
-use crate::regions::{RegionCopy, region_copies_from};
+use crate::task_pages::tasks_from;
 use crate::trees::{found, located_tree};
 use crate::walk_items::items_of_walk;
 use serde_json::Value;
@@ -78,17 +77,11 @@ pub(crate) fn answer_asked(
         Asked::Parts(encoding, items, lists) => {
             some_parts(alloc, &grid, encoding, items, lists, room)
         }
-        Asked::Copies(encoding, target, items, chunks) => {
-            some_copies(alloc, shape, grid, encoding, target, items, chunks, room)
+        Asked::Tasks(encoding, copy, items) => {
+            some_tasks(alloc, shape, grid, encoding, copy, items, room)
         }
-        Asked::Counts(encoding, target, share, chunks) => {
-            there(answer_counts(alloc, shape, grid, encoding, target, share, chunks))
-        }
-        Asked::CopiesOfRegion(encoding, target, items, region) => {
-            some_region_copies(alloc, grid, encoding, target, items, region, room)
-        }
-        Asked::CountsOfRegion(encoding, target, share, region) => {
-            there(answer_region_counts(alloc, grid, encoding, target, share, region))
+        Asked::TaskCounts(encoding, copy, share) => {
+            there(answer_counts(alloc, shape, grid, encoding, copy, share))
         }
         Asked::ChangedChunks(resize) => there(answer_changed(alloc, &grid, chunk_grid, &resize)),
     }
@@ -176,100 +169,47 @@ fn some_parts(
     parts_from(alloc, grid, &encoding, &elements, first, &limits)
 }
 
-/// Some of the groups of the plan of a rechunking of the grid's array, which has this shape; `None` where they are longer than there is room for.
+/// Some of the tasks of a copy of the grid's array, which has this shape; `None` where they are longer than there is room for.
 ///
 /// # Errors
-/// The first that applies: the encoding can't be made; the target's grid or its encoding; the start and the shape make no box; the box has another
-/// number of dimensions than the target. Or out of memory.
-fn some_copies(
+/// The first that applies: the encoding can't be made; the target's grid or its encoding; the start and the shape make no box; the copy has no tasks. Or
+/// out of memory.
+fn some_tasks(
     alloc: Global,
     shape: &[u64],
     grid: ChunkGrid,
     encoding_tree: &Value,
-    target: Target<'_>,
+    copy: CopyAsked<'_>,
     items: Items,
-    chunks: Option<Lists>,
     room: usize,
 ) -> Result<Option<Value>, Refusal<LineFault>>
-    ensures { MatchResult result (IsGiven (room + 1) (IsSomeCopiesAnswer shape.now
-        (view encoding_tree.now) (target_of target.entry) (items_of items)
-        (option_map lists_of chunks) (grid_in grid)))
-        (OrMemory (IsSomeCopiesRefusal shape.now (view encoding_tree.now) (target_of target.entry)
-        (option_map lists_of chunks) (grid_in grid))) }
+    ensures { MatchResult result (IsGiven (room + 1) (IsSomeTasksAnswer shape.now
+        (view encoding_tree.now) (copy_asked_of copy.entry) (items_of items) (grid_in grid)))
+        (OrMemory (IsCopyRefusal HasNoTasks shape.now (view encoding_tree.now)
+        (copy_asked_of copy.entry) (grid_in grid))) }
 {
     let limits = Limits::new(items.most, 5, grid.dimensionality(), room);
-    let rechunking = Rechunking::new(alloc, shape, grid, encoding_tree, target, chunks)?;
-    let first = items.first.unwrap_or(0);
-    copies_from(alloc, &rechunking, first, &limits)
+    let copying = Copying::new(alloc, shape, grid, encoding_tree, copy)?;
+    tasks_from(alloc, &copying, items.first.unwrap_or(0), &limits)
 }
 
-/// How much the plan of a rechunking of the grid's array copies, which has this shape, and which of its lines a share has.
+/// How much the tasks of a copy of the grid's array read and write, which has this shape, and which of them a share has.
 ///
 /// # Errors
-/// As of [`some_copies`].
+/// As of [`some_tasks`]; or there are too many chunks to count the tasks.
 fn answer_counts(
     alloc: Global,
     shape: &[u64],
     grid: ChunkGrid,
     encoding_tree: &Value,
-    target: Target<'_>,
+    copy: CopyAsked<'_>,
     share: Share,
-    chunks: Option<Lists>,
 ) -> Result<Value, Refusal<LineFault>>
-    ensures { MatchResult result (λ tree. IsSomeCountsAnswer shape.now
-        (view encoding_tree.now) (target_of target.entry) (share_of share)
-        (option_map lists_of chunks) (grid_in grid) (view tree))
-        (OrMemory (IsSomeCopiesRefusal shape.now (view encoding_tree.now) (target_of target.entry)
-        (option_map lists_of chunks) (grid_in grid))) }
+    ensures { MatchResult result (λ tree. IsTaskCountsAnswer shape.now (view encoding_tree.now)
+        (copy_asked_of copy.entry) (share_of share) (grid_in grid) (view tree))
+        (OrMemory (IsCopyRefusal HasNoCounts shape.now (view encoding_tree.now)
+        (copy_asked_of copy.entry) (grid_in grid))) }
 {
-    let rechunking = Rechunking::new(alloc, shape, grid, encoding_tree, target, chunks)?;
-    counts_of_copies(alloc, &rechunking, &share)
-}
-
-/// Some of the groups of the copy of a region of the grid's array; `None` where they are longer than there is room for.
-///
-/// # Errors
-/// The first that applies: the encoding can't be made; the target's grid or its encoding; the start and the shape make no box; the region, the two
-/// arrays and the index to begin at don't fit together. Or out of memory.
-fn some_region_copies(
-    alloc: Global,
-    grid: ChunkGrid,
-    encoding_tree: &Value,
-    target: TargetArray<'_>,
-    items: Items,
-    region: RegionAsked,
-    room: usize,
-) -> Result<Option<Value>, Refusal<LineFault>>
-    ensures { MatchResult result (IsGiven (room + 1) (IsSomeRegionCopiesAnswer
-        (view encoding_tree.now) (target_array_of target.entry) (items_of items)
-        (region_of region) (grid_in grid)))
-        (OrMemory (IsSomeRegionRefusal (view encoding_tree.now) (target_array_of target.entry)
-        (region_of region) (grid_in grid))) }
-{
-    let limits = Limits::new(items.most, 5, grid.dimensionality(), room);
-    let copied = RegionCopy::new(alloc, grid, encoding_tree, target, region)?;
-    let first = items.first.unwrap_or(0);
-    region_copies_from(alloc, &copied, first, &limits)
-}
-
-/// How much is copied of a region of the grid's array, and which of the lines a share has.
-///
-/// # Errors
-/// As of [`some_region_copies`].
-fn answer_region_counts(
-    alloc: Global,
-    grid: ChunkGrid,
-    encoding_tree: &Value,
-    target: TargetArray<'_>,
-    share: Share,
-    region: RegionAsked,
-) -> Result<Value, Refusal<LineFault>>
-    ensures { MatchResult result (λ tree. IsSomeRegionCountsAnswer (view encoding_tree.now)
-        (target_array_of target.entry) (share_of share) (region_of region) (grid_in grid)
-        (view tree))
-        (OrMemory (IsSomeRegionRefusal (view encoding_tree.now) (target_array_of target.entry)
-        (region_of region) (grid_in grid))) }
-{
-    let copied = RegionCopy::new(alloc, grid, encoding_tree, target, region)?;
-    counts_of_moves(alloc, &copied, &share)
+    let copying = Copying::new(alloc, shape, grid, encoding_tree, copy)?;
+    counts_of(alloc, &copying, &share)
 }

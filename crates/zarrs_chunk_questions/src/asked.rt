@@ -1,18 +1,20 @@
 //! What an array's grid is asked.
-ghost use Rattle.std.specs.Prelude.{codes};
+ghost use Rattle.std.specs.Prelude.{codes, option_map};
 ghost use Rattle.serde_json.specs.View.{view};
-ghost use Rattle.zarrs_chunk_questions.specs.Question.{asked_in, encoding_in, items_in, lists_in, numbers_in, of_target as member_of, region_in, share_in};
-ghost use Rattle.zarrs_chunk_questions.specs.Question.{stored_in, target_array_in, target_in, target_object_in, target_shape_in};
-ghost use Rattle.zarrs_chunk_questions.specs.seen.Read.{IsRead, asked_of, items_of, lists_of, region_of, share_of, target_array_of, target_of};
-ghost use Rattle.zarrs_chunk_questions.specs.declared.call.OfArray.TheVariants.{Copies, CopiesOfRegion, Counts, CountsOfRegion, Locate, Parts};
+ghost use Rattle.zarrs_chunk_questions.specs.Question.{asked_in, copy_in, encoding_in, items_in, lists_in, numbers_in, of_target as member_of, share_in};
+ghost use Rattle.zarrs_chunk_questions.specs.Question.{target_in, target_object_in, target_shape_in, task_order_in};
+ghost use Rattle.zarrs_chunk_questions.specs.seen.Read.{IsRead, asked_of, copy_asked_of, items_of, lists_of, share_of, target_of};
+ghost use Rattle.zarrs_chunk_questions.specs.declared.call.OfArray.TheVariants.{Locate, Parts, TaskCounts, Tasks};
 
 use crate::call::{OfArray, OfBox, OfGrid, OfNumbers, WalkOf};
 use crate::reading::{in_form, optional_in, required, required_in};
 use crate::unreadable::Unreadable;
 use serde_json::Value;
 use std::alloc::Global;
+use std::num::NonZeroU64;
 use zarrs_chunk_base::{Refusal, TreeForm};
 use zarrs_chunk_plan::Share;
+use zarrs_chunk_tasks::Order;
 
 /// A box, as its start and its shape say it.
 pub(crate) type Lists = (Vec<u64>, Vec<u64>);
@@ -32,14 +34,10 @@ pub(crate) enum Asked<'t> {
     Located(&'t Value, Vec<u64>),
     /// Some of the parts of the plan of reading a box.
     Parts(&'t Value, Items, Lists),
-    /// Some of the groups of the plan of a rechunking, into the chunks of a box, where one is given.
-    Copies(&'t Value, Target<'t>, Items, Option<Lists>),
-    /// How much that plan copies, and which of its lines a share has.
-    Counts(&'t Value, Target<'t>, Share, Option<Lists>),
-    /// Some of the groups of the copy of a region to another array.
-    CopiesOfRegion(&'t Value, TargetArray<'t>, Items, RegionAsked),
-    /// How much that copies, and which of its lines a share has.
-    CountsOfRegion(&'t Value, TargetArray<'t>, Share, RegionAsked),
+    /// Some of the tasks of a copy.
+    Tasks(&'t Value, CopyAsked<'t>, Items),
+    /// How much the tasks of a copy read and write, and which of them a share has.
+    TaskCounts(&'t Value, CopyAsked<'t>, Share),
     /// What becomes of the chunks when the array gets this shape.
     ChangedChunks(Vec<u64>),
 }
@@ -53,27 +51,25 @@ pub(crate) struct Items {
     pub(crate) first: Option<u64>,
 }
 
-/// How an array is to be stored: the trees of a grid's and an encoding's metadata.
-#[derive(Clone, Copy, Drop)]
-pub(crate) struct Target<'t> {
+/// The array that elements are copied to: its shape, `None` for that of the array, and the trees of a grid's and an encoding's metadata.
+#[derive(Drop)]
+pub(crate) struct TargetArray<'t> {
+    pub(crate) shape: Option<Vec<u64>>,
     pub(crate) chunk_grid: &'t Value,
     pub(crate) chunk_key_encoding: &'t Value,
 }
 
-/// The array that a region goes to: its shape, and how it is to be stored.
+/// A copy that is asked about.
 #[derive(Drop)]
-pub(crate) struct TargetArray<'t> {
-    pub(crate) shape: Vec<u64>,
-    pub(crate) stored: Target<'t>,
-}
-
-/// A region that is asked about.
-#[derive(Drop)]
-pub(crate) struct RegionAsked {
-    /// The box of the array's elements.
-    pub(crate) elements: Lists,
+pub(crate) struct CopyAsked<'t> {
+    pub(crate) target: TargetArray<'t>,
+    /// The box of the array's elements; `None`: that of all.
+    pub(crate) subset: Option<Lists>,
     /// The index that it begins at in the target's array; `None`: 0 in each dimension.
     pub(crate) at: Option<Vec<u64>>,
+    /// How many neighbouring chunks a task takes along each dimension; `None`: one.
+    pub(crate) task_chunks: Option<Vec<NonZeroU64>>,
+    pub(crate) order: Order,
 }
 
 impl<'t> Asked<'t> {
@@ -98,10 +94,8 @@ impl<'t> Asked<'t> {
             OfArray::ChunkIndicesCounted => Ok(Asked::Counted(numbers(alloc, tree)?)),
             OfArray::Locate => located(alloc, tree),
             OfArray::Parts => parts(alloc, tree),
-            OfArray::Copies => copies(alloc, tree),
-            OfArray::Counts => counts(alloc, tree),
-            OfArray::CopiesOfRegion => copies_of_region(alloc, tree),
-            OfArray::CountsOfRegion => counts_of_region(alloc, tree),
+            OfArray::Tasks => tasks(alloc, tree),
+            OfArray::TaskCounts => task_counts(alloc, tree),
             OfArray::ChangedChunks => Ok(Asked::ChangedChunks(required_in(alloc, "resize", tree)?)),
         }
     }
@@ -151,51 +145,71 @@ fn parts<'t>(alloc: Global, tree: &'t Value) -> Result<Asked<'t>, Refusal<Unread
     Ok(Asked::Parts(encoding, items, elements))
 }
 
-/// What `copies` is asked of.
-fn copies<'t>(alloc: Global, tree: &'t Value) -> Result<Asked<'t>, Refusal<Unreadable>>
-    ensures { IsRead asked_of (asked_in Copies (view tree.now)) result }
-{
-    let encoding = encoding(tree)?;
-    let target = Target::from_tree(tree)?;
-    let items = Items::from_tree(alloc, tree)?;
-    let chunks = optional_in(alloc, "chunks", tree)?;
-    Ok(Asked::Copies(encoding, target, items, chunks))
-}
-
-/// What `counts` is asked of.
-fn counts<'t>(alloc: Global, tree: &'t Value) -> Result<Asked<'t>, Refusal<Unreadable>>
-    ensures { IsRead asked_of (asked_in Counts (view tree.now)) result }
-{
-    let encoding = encoding(tree)?;
-    let target = Target::from_tree(tree)?;
-    let share = share(alloc, tree)?;
-    let chunks = optional_in(alloc, "chunks", tree)?;
-    Ok(Asked::Counts(encoding, target, share, chunks))
-}
-
-/// What `copies_of_region` is asked of.
-fn copies_of_region<'t>(alloc: Global, tree: &'t Value) -> Result<Asked<'t>, Refusal<Unreadable>>
-    ensures { IsRead asked_of (asked_in CopiesOfRegion (view tree.now)) result }
+/// What `tasks` is asked of.
+fn tasks<'t>(alloc: Global, tree: &'t Value) -> Result<Asked<'t>, Refusal<Unreadable>>
+    ensures { IsRead asked_of (asked_in Tasks (view tree.now)) result }
 {
     let encoding = encoding(tree)?;
     let target = TargetArray::from_tree(alloc, tree)?;
     let items = Items::from_tree(alloc, tree)?;
-    let region = RegionAsked::from_tree(alloc, tree)?;
-    Ok(Asked::CopiesOfRegion(encoding, target, items, region))
+    let copy = copy_to(alloc, target, tree)?;
+    Ok(Asked::Tasks(encoding, copy, items))
 }
 
-/// What `counts_of_region` is asked of.
-fn counts_of_region<'t>(alloc: Global, tree: &'t Value) -> Result<Asked<'t>, Refusal<Unreadable>>
-    ensures { IsRead asked_of (asked_in CountsOfRegion (view tree.now)) result }
+/// What `task_counts` is asked of.
+fn task_counts<'t>(alloc: Global, tree: &'t Value) -> Result<Asked<'t>, Refusal<Unreadable>>
+    ensures { IsRead asked_of (asked_in TaskCounts (view tree.now)) result }
 {
     let encoding = encoding(tree)?;
     let target = TargetArray::from_tree(alloc, tree)?;
     let share = share(alloc, tree)?;
-    let region = RegionAsked::from_tree(alloc, tree)?;
-    Ok(Asked::CountsOfRegion(encoding, target, share, region))
+    let copy = copy_to(alloc, target, tree)?;
+    Ok(Asked::TaskCounts(encoding, copy, share))
 }
 
-/// The share that a line asks for: its member `share`, the number of the share and how many there are; where it has none, the whole plan.
+/// The copy to a target that a line asks for.
+///
+/// # Errors
+/// The first that applies: `subset` isn't two lists of sizes; `at` is no list of sizes; `task_chunks` is no list of sizes from 1 on; `order` is neither
+/// `target` nor `source`. Or out of memory.
+fn copy_to<'t>(
+    alloc: Global,
+    target: TargetArray<'t>,
+    tree: &'t Value,
+) -> Result<CopyAsked<'t>, Refusal<Unreadable>>
+    ensures { IsRead copy_asked_of (copy_in (target_of target.entry) (view tree.now)) result }
+{
+    let subset = optional_in(alloc, "subset", tree)?;
+    let at = optional_in(alloc, "at", tree)?;
+    let task_chunks = optional_in(alloc, "task_chunks", tree)?;
+    let order = task_order(tree)?;
+    Ok(CopyAsked {
+        target,
+        subset,
+        at,
+        task_chunks,
+        order,
+    })
+}
+
+/// Of which array tasks take chunks: the member `order`; the target, where there is none.
+///
+/// # Errors
+/// `order` is neither `target` nor `source`.
+fn task_order(tree: &Value) -> Result<Order, Refusal<Unreadable>>
+    ensures { IsRead (λ order. order) (task_order_in (view tree.now)) result }
+{
+    let Some(member) = tree.get("order") else {
+        return Ok(Order::Target);
+    };
+    match member.as_str() {
+        Some("target") => Ok(Order::Target),
+        Some("source") => Ok(Order::Source),
+        _ => Err(Refusal::Refused(Unreadable::WrongValue("order"))),
+    }
+}
+
+/// The share that a line asks for: its member `share`, the number of the share and how many there are; where it has none, all.
 ///
 /// # Errors
 /// `share` isn't two sizes, or there is no share with the number. Or out of memory.
@@ -226,65 +240,28 @@ impl Items {
     }
 }
 
-impl<'t> Target<'t> {
-    /// The target that a line asks for: its member `target`. What else that has says nothing.
+impl<'t> TargetArray<'t> {
+    /// The array that a line asks for as its member `target`. What else that has says nothing.
     ///
     /// # Errors
-    /// The first that applies: `target` is missing, or no object; it has no `chunk_grid`; it has no `chunk_key_encoding`.
-    pub(crate) fn from_tree(tree: &'t Value) -> Result<Target<'t>, Refusal<Unreadable>>
+    /// The first that applies: `target` is missing, or no object; its `shape` is no list of sizes; it has no `chunk_grid`; it has no
+    /// `chunk_key_encoding`. Or out of memory.
+    fn from_tree(alloc: Global, tree: &'t Value) -> Result<TargetArray<'t>, Refusal<Unreadable>>
         ensures { IsRead target_of (target_in (view tree.now)) result }
     {
         let target = target_object(tree)?;
-        Target::stored(target)
-    }
-
-    /// The trees that a target has.
-    ///
-    /// # Errors
-    /// The first that applies: it has no `chunk_grid`; it has no `chunk_key_encoding`.
-    fn stored(target: &'t Value) -> Result<Target<'t>, Refusal<Unreadable>>
-        ensures { IsRead target_of (stored_in (view target.now)) result }
-    {
+        let shape = target_shape(alloc, target)?;
         let chunk_grid = of_target("chunk_grid", "target.chunk_grid", target)?;
         let chunk_key_encoding = of_target(
             "chunk_key_encoding",
             "target.chunk_key_encoding",
             target,
         )?;
-        Ok(Target {
+        Ok(TargetArray {
+            shape,
             chunk_grid,
             chunk_key_encoding,
         })
-    }
-}
-
-impl<'t> TargetArray<'t> {
-    /// The array that a line asks for as its member `target`. What else that has says nothing.
-    ///
-    /// # Errors
-    /// The first that applies: `target` is missing, or no object; it has no `shape`, or one that is no list of sizes; it has no `chunk_grid`; it has
-    /// no `chunk_key_encoding`. Or out of memory.
-    fn from_tree(alloc: Global, tree: &'t Value) -> Result<TargetArray<'t>, Refusal<Unreadable>>
-        ensures { IsRead target_array_of (target_array_in (view tree.now)) result }
-    {
-        let target = target_object(tree)?;
-        let shape = target_shape(alloc, target)?;
-        let stored = Target::stored(target)?;
-        Ok(TargetArray { shape, stored })
-    }
-}
-
-impl RegionAsked {
-    /// The region that a line asks for: its members `subset` and `at`.
-    ///
-    /// # Errors
-    /// The first that applies: `subset` is missing, or isn't two lists of sizes; `at` is no list of sizes. Or out of memory.
-    fn from_tree(alloc: Global, tree: &Value) -> Result<RegionAsked, Refusal<Unreadable>>
-        ensures { IsRead region_of (region_in (view tree.now)) result }
-    {
-        let elements = lists(alloc, "subset", tree)?;
-        let at = optional_in(alloc, "at", tree)?;
-        Ok(RegionAsked { elements, at })
     }
 }
 
@@ -300,11 +277,13 @@ fn target_object(tree: &Value) -> Result<&Value, Refusal<Unreadable>>
 }
 
 /// The shape of a target that is another array.
-fn target_shape(alloc: Global, target: &Value) -> Result<Vec<u64>, Refusal<Unreadable>>
-    ensures { IsRead (λ shape. shape.items) (target_shape_in (view target.now)) result }
+fn target_shape(alloc: Global, target: &Value) -> Result<Option<Vec<u64>>, Refusal<Unreadable>>
+    ensures { IsRead (option_map (λ shape. shape.items)) (target_shape_in (view target.now)) result }
 {
-    let shape = of_target("shape", "target.shape", target)?;
-    in_form(alloc, "target.shape", shape)
+    match target.get("shape") {
+        Some(shape) => Ok(Some(in_form(alloc, "target.shape", shape)?)),
+        None => Ok(None),
+    }
 }
 
 /// A member that a target has to have, which a fault calls by its path.

@@ -34,14 +34,10 @@ pub(crate) enum OfArray {
     Locate,
     /// Of a box, with an encoding.
     Parts,
-    /// Of a target, with an encoding.
-    Copies,
-    /// Of a target, with an encoding, and of a share.
-    Counts,
-    /// Of a box and another array that it goes to, with an encoding.
-    CopiesOfRegion,
-    /// Of such a box and such an array, with an encoding, and of a share.
-    CountsOfRegion,
+    /// Of some items of the tasks of a copy, with an encoding.
+    Tasks,
+    /// Of the copy and a share, with an encoding.
+    TaskCounts,
     /// Of another shape of the array.
     ChangedChunks,
 }
@@ -119,10 +115,8 @@ impl Call {
             "chunk_indices_counted" => OfArray::ChunkIndicesCounted,
             "locate" => OfArray::Locate,
             "parts" => OfArray::Parts,
-            "copies" => OfArray::Copies,
-            "counts" => OfArray::Counts,
-            "copies_of_region" => OfArray::CopiesOfRegion,
-            "counts_of_region" => OfArray::CountsOfRegion,
+            "tasks" => OfArray::Tasks,
+            "task_counts" => OfArray::TaskCounts,
             "changed_chunks" => OfArray::ChangedChunks,
             _ => return None,
         };

@@ -1,10 +1,9 @@
 //! What a question to a chunk grid or a chunk key encoding means, and the line that answers it.
 //!
 //! A question is a JSON object: the `shape` of an array and its `chunk_grid`, as in its `zarr.json`, the name of a `call`, and what it is asked
-//! `of`, where it takes something; for a walk, how many `items` to give, and from which on (`first`); for `locate`, `parts` and the calls about
-//! copies, a `chunk_key_encoding`; for `copies` and `counts`, a `target` and perhaps a box of its `chunks`; for `copies_of_region` and
-//! `counts_of_region`, a `target` with a `shape` of its own, the `subset` that is copied, and perhaps where it begins there (`at`); for the counts
-//! perhaps a `share`. The calls `encode` and `decode` take a `chunk_key_encoding` and no grid. [`answer`] gives the line that answers it: the answer
+//! `of`, where it takes something; for a walk, how many `items` to give, and from which on (`first`); for `locate`, `parts`, `tasks` and
+//! `task_counts`, a `chunk_key_encoding`; for the last two a `target`, and perhaps the `subset` that is copied, where it begins there (`at`), and which
+//! tasks (`task_chunks`, `order`); for the counts perhaps a `share`. The calls `encode` and `decode` take a `chunk_key_encoding` and no grid. [`answer`] gives the line that answers it: the answer
 //! as compact JSON, why the library refused, or why the question can't be read.
 //! [`answer_within`] ends a walk where its items are longer than there is room for.
 //!
@@ -25,13 +24,13 @@
 //! | `extensions` | the grid, the encoding and the box that a line gives |
 //! | `grid_answers`, `rectilinear_answers`, `key_answers` | what a grid answers, one that is `rectilinear` alone, and an encoding |
 //! | `walk_items`, `pages` | the items of a walk; those of a walk and of a plan of a read from one of them on |
-//! | `rechunking`, `regions` | a rechunking, and a region of an array, that a question is about, and what is copied |
-//! | `groups` | the groups of what is copied, from one of them on |
-//! | `counting` | how much is copied |
+//! | `copying` | a copy that a question is about |
+//! | `task_pages` | its tasks, from one of them on |
+//! | `counting` | how much they read and write |
 //! | `bytes` | which bytes of an uncompressed chunk hold a box |
 //! | `changed` | what becomes of the chunks of an array that gets another shape |
 //! | `limits` | how many of them are given |
-//! | `trees`, `plan_trees` | the trees that answers are written as, and the parts of plans |
+//! | `trees`, `plan_trees` | the trees that answers are written as, and the parts of plans and tasks |
 //! | `answer_line` | the line that answers a line |
 #![tactic(auto)]
 
@@ -42,10 +41,10 @@ mod asked;
 mod bytes;
 mod call;
 mod changed;
+mod copying;
 mod counting;
 mod extensions;
 mod grid_answers;
-mod groups;
 mod key_answers;
 mod limits;
 mod line_fault;
@@ -53,9 +52,8 @@ mod pages;
 mod plan_trees;
 mod question;
 mod reading;
-mod rechunking;
 mod rectilinear_answers;
-mod regions;
+mod task_pages;
 mod trees;
 mod unreadable;
 mod walk_items;

@@ -4,7 +4,7 @@ use thiserror::Error;
 use zarrs_chunk_base::{
     ArraySubsetError, ExtensionError, IncompatibleDimensionalityError, StoreKeyError,
 };
-use zarrs_chunk_plan::{CopiesError, RegionError};
+use zarrs_chunk_tasks::TasksError;
 
 /// Why a line has no answer: it can't be read, or the library refuses.
 #[derive(Debug, Drop, Error)]
@@ -30,10 +30,10 @@ pub(crate) enum LineFault {
     /// What the call is asked of has another number of dimensions than the grid.
     #[error("{0}")]
     Lengths(IncompatibleDimensionalityError),
-    /// The rechunking that is asked for can't be planned.
+    /// The copy that is asked for has no tasks.
     #[error("{0}")]
-    Copies(CopiesError),
-    /// The region that is asked for can't be copied.
-    #[error("{0}")]
-    Region(RegionError),
+    Tasks(TasksError),
+    /// There are too many chunks to count the tasks.
+    #[error("more than 1048576 chunks along a dimension, so the tasks aren't counted")]
+    TooManyToCount,
 }

@@ -7,9 +7,9 @@ ghost use Rattle.zarrs_chunk_base.specs.Refusal.{OrMemory};
 ghost use Rattle.zarrs_chunk_keys.specs.ChunkKey.{IsKey};
 ghost use Rattle.zarrs_chunk_keys.specs.seen.Encodings.{encoding_in};
 ghost use Rattle.zarrs_chunks.specs.seen.Grids.{grid_in};
-ghost use Rattle.zarrs_chunk_plan.specs.Rechunking.{all_chunks_box};
+ghost use Rattle.zarrs_chunk_plan.specs.ArrayBoxes.{all_chunks_box};
 ghost use Rattle.zarrs_chunks.specs.Walks.{chunks_of};
-ghost use Rattle.zarrs_chunk_questions.specs.Pages.{IsPartsAnswer, chunks_from, count_of, is_more, item_trees as trees_of_items, page_from};
+ghost use Rattle.zarrs_chunk_questions.specs.Pages.{IsPartsAnswer, some_from, count_of, is_more, item_trees as trees_of_items, page_from};
 ghost use Rattle.zarrs_chunk_questions.specs.Pages.{page_tree as tree_of_page};
 ghost use Rattle.zarrs_chunk_questions.specs.Pages.{part_tree as tree_of_part};
 ghost use Rattle.zarrs_chunk_questions.specs.Refused.{IsPartsRefusal};
@@ -102,7 +102,7 @@ pub(crate) fn items_from<G: ChunkGridTraits>(
 ) -> Result<Option<Value>, AllocError>
     ensures { IfOk result (λ found. MatchOption found
         (limits.now.too_many ≤ length (trees_of_items walk (G.dimensions grid.now)
-        (chunks_from first limits.now.most (chunks_of (G.dimensions grid.now)))))
+        (some_from first limits.now.most (chunks_of (G.dimensions grid.now)))))
         (λ tree. view tree ≡ page_from walk (G.dimensions grid.now) first limits.now.most)) }
 {
     let chunks = all_chunks(alloc, grid)?;
@@ -136,7 +136,7 @@ fn item_at<G: ChunkGridTraits>(
     requires within { number < count_of (chunks_of (G.dimensions grid.now)) }
     ensures { IfOk result (λ found. map view (option_to_list found)
         ≡ trees_of_items walk (G.dimensions grid.now)
-        (chunks_from number 1 (chunks_of (G.dimensions grid.now)))) }
+        (some_from number 1 (chunks_of (G.dimensions grid.now)))) }
 {
     let chunk = chunk_at(alloc, chunks, number)?;
     walk.item_of(alloc, grid, chunk.as_slice())

@@ -8,7 +8,7 @@ use Rattle.zarrs_chunk_base.specs.ArraySubset.{Box, IsBox, IsEmptyBox, ends}
 use Rattle.zarrs_chunk_base.specs.Dimension.{Dimension, IsChain, array_sizes}
 use Rattle.zarrs_chunk_parts.specs.Plan.{Covers}
 use Rattle.zarrs_chunk_plan.specs.Counts.{product}
-use Rattle.zarrs_chunk_plan.specs.Rechunking.{array_box}
+use Rattle.zarrs_chunk_plan.specs.ArrayBoxes.{array_box}
 use Rattle.zarrs_chunk_plan.specs.Region.{LiesIn, moved}
 use Rattle.zarrs_chunk_plan.proofs.MovedBoxes.{within_below}
 use Rattle.zarrs_chunk_plan.proofs.SomePlan.{array_homes, covers_all}

@@ -17,13 +17,16 @@ mod OneGrid
 mod RegularSums
 mod Sharing
 mod SideCounts
+pub mod PlannedTasks
 mod SomeTasks
 mod SumsAlong
 mod TaskCounts
 mod TaskLaws
+pub mod TasksBegun
 mod TaskParts
 pub mod TaskPlans
 mod TriedEdges
 mod TriedSizes
 mod TwoStages
 pub mod WalkedTasks
+mod WholeChunks

@@ -11,7 +11,7 @@ use Rattle.zarrs_chunks.proofs.ChunksInBoxes.{are_those_inside, length_below, li
 use Rattle.zarrs_chunk_parts.specs.Plan.{HasElement, IsPart, IsPlan}
 use Rattle.zarrs_chunk_parts.specs.declared.part.Part.{Part}
 use Rattle.zarrs_chunk_plan.specs.Counts.{product}
-use Rattle.zarrs_chunk_plan.specs.Rechunking.{array_box}
+use Rattle.zarrs_chunk_plan.specs.ArrayBoxes.{array_box}
 use Rattle.zarrs_chunk_plan.proofs.SameBoxes.{chunks_of_same}
 use Rattle.zarrs_chunk_plan.proofs.Plans.{all_long, chunk_of, counted_once, has_common, length_counted, some_part, source_of}
 use Rattle.zarrs_chunk_plan.proofs.Rechunkings.{in_array}

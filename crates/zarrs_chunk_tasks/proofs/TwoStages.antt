@@ -10,7 +10,7 @@ use Rattle.zarrs_chunk_base.specs.ArraySubset.{Box}
 use Rattle.zarrs_chunk_base.specs.Dimension.{Dimension, array_sizes}
 use Rattle.zarrs_chunk_axes.specs.EqualEdges.{AreEqualEdges}
 use Rattle.zarrs_chunk_plan.specs.Counts.{product}
-use Rattle.zarrs_chunk_plan.specs.Rechunking.{array_box}
+use Rattle.zarrs_chunk_plan.specs.ArrayBoxes.{array_box}
 use Rattle.zarrs_chunk_plan.specs.Region.{CanBeMoved, EndWithin}
 use Rattle.zarrs_chunk_plan.proofs.MovedBoxes.{whole_within}
 use Rattle.zarrs_chunk_tasks.specs.Cheapest.{FindsTasks, IsChosen}

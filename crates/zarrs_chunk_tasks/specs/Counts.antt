@@ -8,6 +8,8 @@ use Rattle.zarrs_chunks.specs.Walks.{chunks_in}
 use Rattle.zarrs_chunk_parts.specs.Plan.{Covers}
 use Rattle.zarrs_chunk_parts.specs.declared.part.Part.{Part}
 use Rattle.zarrs_chunk_plan.specs.Counts.{product}
+use Rattle.zarrs_chunk_tasks.specs.declared.count.Count.{Count}
+use Rattle.zarrs_chunk_tasks.specs.declared.count.Count.TheVariants.{ChunksRead, ChunksWritten, ElementsDecoded, LargestTask, Tasks}
 use Rattle.zarrs_chunk_tasks.specs.declared.counts.CountsAlong.{CountsAlong}
 use Rattle.zarrs_chunk_tasks.specs.declared.task.Task.{Task}
 
@@ -27,6 +29,14 @@ pub record AreMet (ds : List Dimension) (b : Box) (met : ℕ × ℕ) : Type 0 wh
 -- The same of the parts of a plan: how many there are, and how many elements their chunks have.
 abbrev pub parts_met : List Part → ℕ × ℕ
 parts_met parts = (length parts, sum (map (λ (part : Part). product part.shape.items) parts))
+
+-- a count along one dimension, by its name
+abbrev pub count_along : Count → CountsAlong → ℕ
+count_along ChunksRead along = along.chunks_read
+count_along ChunksWritten along = along.chunks_written
+count_along ElementsDecoded along = along.elements_decoded
+count_along LargestTask along = along.largest_task
+count_along Tasks along = along.tasks
 
 -- a count of all dimensions together
 abbrev pub in_all : (CountsAlong → ℕ) → List CountsAlong → ℕ

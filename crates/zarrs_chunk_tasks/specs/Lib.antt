@@ -1,6 +1,7 @@
 pub mod Cheapest
 pub mod Counts
 pub mod Edges
+pub mod Few
 pub mod Groups
 pub mod Limits
 pub mod Stages

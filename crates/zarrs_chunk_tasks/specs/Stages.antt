@@ -10,7 +10,7 @@ use Rattle.zarrs_chunk_base.specs.Dimension.{Dimension}
 use Rattle.zarrs_chunk_axes.specs.EqualEdges.{AreEqualEdges}
 use Rattle.zarrs_chunk_parts.specs.Plan.{Covers}
 use Rattle.zarrs_chunk_plan.specs.Counts.{product}
-use Rattle.zarrs_chunk_plan.specs.Rechunking.{array_box}
+use Rattle.zarrs_chunk_plan.specs.ArrayBoxes.{array_box}
 use Rattle.zarrs_chunk_plan.specs.Region.{moved}
 use Rattle.zarrs_chunk_tasks.specs.Cheapest.{AreTasksOf, FindsTasks, HoldAtMost, IsCost, IsExactIfFew, IsLargestOfBoth, IsOfNoTasks, OnesAreNoCheaper, most_choices, most_sizes}
 use Rattle.zarrs_chunk_tasks.specs.Counts.{greatest_of_128}

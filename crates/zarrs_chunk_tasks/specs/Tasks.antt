@@ -1,15 +1,17 @@
 -- The tasks of a copy: each fills a buffer from the source's array, and writes it to the target's.
 -- Source: Zarr V3 core, chunk grids; tasks are this library's own.
-use Rattle.std.specs.Prelude.{◌≡◌, ◌≢◌, ◌↔◌, ℕ, List, length}
+use Rattle.std.specs.Prelude.{◌≡◌, ◌≢◌, ◌↔◌, ◌⊎◌, ℕ, List, length}
 use Rattle.std.specs.List.{AllPairs, AllZip, Contains}
 use Rattle.zarrs_chunk_base.specs.ArraySubset.{Box, IsBox, IsInside}
 use Rattle.zarrs_chunk_base.specs.Dimension.{Dimension}
 use Rattle.zarrs_chunk_base.specs.Refusal.{TellsLengths}
 use Rattle.zarrs_chunks.specs.Walks.{chunks_in, counted_from}
-use Rattle.zarrs_chunk_parts.specs.Plan.{HasElement, IsPlan}
+use Rattle.zarrs_chunk_parts.specs.Plan.{HasAllOf, HasElement, IsPlan, Meets}
 use Rattle.zarrs_chunk_parts.specs.declared.part.Part.{Part}
 use Rattle.zarrs_chunk_plan.specs.Region.{CanBeMoved, IsDestination, IsRegionFault, moved, shifted}
 use Rattle.zarrs_chunk_tasks.specs.Groups.{HoldsSomeOf, IsBuffer}
+use Rattle.zarrs_chunk_tasks.specs.declared.order.Order.{Order}
+use Rattle.zarrs_chunk_tasks.specs.declared.order.Order.TheVariants.{Source, Target}
 use Rattle.zarrs_chunk_tasks.specs.declared.task.Task.{Task}
 use Rattle.zarrs_chunk_tasks.specs.declared.tasks_error.TasksError.{TasksError}
 use Rattle.zarrs_chunk_tasks.specs.declared.tasks_error.TasksError.TheVariants.{Region, TaskChunks}
@@ -41,6 +43,11 @@ AreTasksByTarget target each region at = AreTasks target each (moved at region) 
 abbrev pub AreTasksBySource : (source : List Dimension) → (each : List ℕ) → (region : Box) → (at : List ℕ) → List Task → Type 0
 AreTasksBySource source each region at = AreTasks source each region region.start at
 
+-- by groups of the chunks of one of the two
+abbrev pub AreTasksBy : Order → (source target : List Dimension) → (each : List ℕ) → (region : Box) → (at : List ℕ) → List Task → Type 0
+AreTasksBy Target source target each region at = AreTasksByTarget target each region at
+AreTasksBy Source source target each region at = AreTasksBySource source each region at
+
 -- a task with the parts that it reads, and with the parts that it writes
 abbrev pub TaskPlan : Type 0
 TaskPlan = Task × (List Part × List Part)
@@ -61,6 +68,14 @@ pub record AreTheCopy (region : Box) (at : List ℕ) (tasks : List Task) : Type 
   pub read_once : AllPairs (λ one other. (index to also : List ℕ) → Moves one index to → Moves other index also → ⊥) tasks
   pub one_shape : (task : Task) → Contains tasks task → task.source.shape ≡ task.target.shape
   pub written_once : AllPairs (λ one other. (to index also : List ℕ) → Moves one index to → Moves other also to → ⊥) tasks
+
+-- the task of the copy the other way round: its boxes change places
+abbrev pub exchanged : Task → Task
+exchanged task = record { group = task.group; source = task.target; target = task.source }
+
+-- one of two boxes has all that a chunk has of the array, and the other one has some of that
+abbrev pub HasAllAndSome : List Dimension → (b other : Box) → (chunk : List ℕ) → Type 0
+HasAllAndSome ds b other chunk = (HasAllOf ds b chunk × Meets ds other chunk) ⊎ (Meets ds b chunk × HasAllOf ds other chunk)
 
 -- an element goes by a task of the first stage to some index of the intermediate array, and from there by a task of the second one
 abbrev pub GoesByBoth : (first second : List Task) → (index to : List ℕ) → Type 0

@@ -6,6 +6,7 @@ pub mod Grouped
 pub mod LargestChunk
 pub mod Least
 pub mod Multiples
+pub mod PlannedTasks
 pub mod Sizes
 pub mod Stages
 pub mod Tasks

@@ -9,6 +9,8 @@
 //! | Both boxes of a task lie in their arrays | [`each_task_lies_in_both_arrays`] |
 //! | Shares of the tasks are together the tasks | [`shares_are_together_the_tasks`] |
 //! | No chunk of the grouped array is in two tasks | [`no_chunk_is_in_two_tasks`] |
+//! | If a task reads all that a chunk has of the array, no other task reads the chunk; and the same of writing | [`a_whole_chunk_is_in_one_task`] |
+//! | The copy the other way round has the same tasks | [`the_other_way_round_has_the_same_tasks`] |
 //! | An element that a task reads is written from the place of the buffer to which it was read | [`each_element_goes_by_the_buffer`] |
 //! | In a rechunking by groups of the target's chunks, each part that a task writes is whole | [`a_rechunking_writes_whole_chunks`] |
 //! | What is counted of a task's box is what its plan reads or writes: its parts, and the elements of their chunks | [`counts_are_those_of_the_parts`] |
@@ -21,12 +23,14 @@ ghost use Rattle.std.specs.List.{AllPairs, Contains, flat_map, range_with_len};
 ghost use Rattle.zarrs_chunk_base.specs.ArraySubset.{Box, IsBox};
 ghost use Rattle.zarrs_chunk_base.specs.Dimension.{array_sizes};
 ghost use Rattle.zarrs_chunk_parts.specs.Plan.{IsPlan, Meets};
-ghost use Rattle.zarrs_chunk_plan.specs.Rechunking.{array_box};
+ghost use Rattle.zarrs_chunk_plan.specs.ArrayBoxes.{array_box};
 ghost use Rattle.zarrs_chunk_plan.specs.Region.{IsDestination, LiesIn, moved};
 ghost use Rattle.zarrs_chunk_plan.specs.Shares.{numbered_share};
 ghost use Rattle.zarrs_chunk_tasks.specs.Counts.{AreMet, parts_met};
 ghost use Rattle.zarrs_chunk_tasks.specs.Limits.{HasAtMost, HasPart, OfParts, ReadNoFewer};
-ghost use Rattle.zarrs_chunk_tasks.specs.Tasks.{AreTasks, AreTasksBySource, AreTasksByTarget, AreTheCopy, GoesByBoth, GoesByBuffer, HasTasks, Moves};
+ghost use Rattle.zarrs_chunk_tasks.specs.Tasks.{AreTasks, AreTasksBy, AreTasksBySource, AreTasksByTarget, AreTheCopy, GoesByBoth, GoesByBuffer};
+ghost use Rattle.zarrs_chunk_tasks.specs.Tasks.{HasAllAndSome, HasTasks, Moves, exchanged};
+ghost use Rattle.zarrs_chunk_tasks.specs.declared.order.Order.{Order as OrderValue};
 ghost use Rattle.zarrs_chunk_tasks.specs.seen.Tasks.{ArePlanned, AreTasksToCome, CanGive, GivesTask};
 
 use crate::{Task, Tasks};
@@ -108,6 +112,42 @@ pub fn no_chunk_is_in_two_tasks<G: ChunkGridTraits, H: ChunkGridTraits>(source: 
         → AreTasksBySource (G.dimensions source.now) each region at tasks
         → AllPairs (λ one other. (chunk : List ℕ) → Meets (G.dimensions source.now) one.source chunk
         → Meets (G.dimensions source.now) other.source chunk → ⊥) tasks }
+{}
+
+/// If a task writes all that a chunk of the target has of its array, no other task writes some of that. So this chunk needn't be read before, and needs no
+/// lock. If a task reads all that a chunk of the source has, no other task reads some of that.
+pub fn a_whole_chunk_is_in_one_task<G: ChunkGridTraits, H: ChunkGridTraits>(
+    source: &G,
+    target: &H,
+    region: &ArraySubset,
+)
+    ensures written { (order : OrderValue) (at each : List ℕ) (tasks : List Task)
+        → HasTasks (array_sizes (G.dimensions source.now)) (array_sizes (H.dimensions target.now))
+        region.now at each
+        → AreTasksBy order (G.dimensions source.now) (H.dimensions target.now) each region.now at
+        tasks
+        → AllPairs (λ one other. (chunk : List ℕ)
+        → HasAllAndSome (H.dimensions target.now) one.target other.target chunk → ⊥) tasks }
+    ensures read { (order : OrderValue) (at each : List ℕ) (tasks : List Task)
+        → HasTasks (array_sizes (G.dimensions source.now)) (array_sizes (H.dimensions target.now))
+        region.now at each
+        → AreTasksBy order (G.dimensions source.now) (H.dimensions target.now) each region.now at
+        tasks
+        → AllPairs (λ one other. (chunk : List ℕ)
+        → HasAllAndSome (G.dimensions source.now) one.source other.source chunk → ⊥) tasks }
+{}
+
+/// The copy the other way round goes from the target's array back to the source's. Its tasks by groups of the chunks of the same array are the tasks of the
+/// copy, with their boxes exchanged.
+pub fn the_other_way_round_has_the_same_tasks<G: ChunkGridTraits>(grid: &G)
+    ensures by_target { (region : Box) (at each : List ℕ) (tasks : List Task)
+        → AreTasksByTarget (G.dimensions grid.now) each region at tasks
+        → AreTasksBySource (G.dimensions grid.now) each (moved at region) region.start
+        (map exchanged tasks) }
+    ensures by_source { (region : Box) (at each : List ℕ) (tasks : List Task)
+        → AreTasksBySource (G.dimensions grid.now) each region at tasks
+        → AreTasksByTarget (G.dimensions grid.now) each (moved at region) region.start
+        (map exchanged tasks) }
 {}
 
 /// There is a list of tasks for the copy of each region that lies in both arrays, and each list of chunks a task. It may be empty.

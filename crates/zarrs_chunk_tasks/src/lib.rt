@@ -16,6 +16,10 @@
 //! | `plan` | the tasks of a copy |
 //! | `walk` | the walk over them, one after another |
 //! | `counts` | how much they read and write, without a walk |
+//! | `count` | what is counted, by its name |
+//! | `order` | both, by groups of the chunks of either array |
+//! | `defaults` | what is taken if a copy doesn't say where it begins, or how many chunks a task takes |
+//! | `few_chunks` | whether there are few enough chunks to choose tasks, and to count them |
 //! | `cheapest` | the tasks that cost the least, under a bound of memory |
 //! | `stages` | one stage or two, whichever costs the least |
 //! | `between` | two stages, by an intermediate array |
@@ -38,14 +42,18 @@ mod buffer;
 mod cheapest;
 mod choices;
 mod copied;
+mod count;
 mod counts;
+mod defaults;
 mod edges;
+mod few_chunks;
 mod group_numbers;
 mod groups_along;
 mod largest_chunk;
 pub mod laws;
 mod least;
 mod multiples;
+mod order;
 mod plan;
 mod sizes;
 mod stages;
@@ -55,7 +63,11 @@ mod tried;
 mod walk;
 
 pub use cheapest::{CheapestTasks, cheapest_tasks};
+pub use count::Count;
 pub use counts::{CountsAlong, task_counts, task_counts_by_source};
+pub use defaults::{at_or_zeros, task_chunks_or_ones};
+pub use few_chunks::{can_choose, can_count};
+pub use order::{Order, task_counts_by, tasks_by};
 pub use plan::{tasks, tasks_by_source};
 pub use stages::{CheapestStages, cheapest_stages};
 pub use task::Task;

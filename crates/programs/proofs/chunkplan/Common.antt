@@ -23,8 +23,8 @@ pub use Rattle.programs.specs.chunkplan.seen.Added.{Adds}
 pub use Rattle.programs.specs.chunkplan.seen.Digits.{AreDigits, HasText, is_text, no_text, value, value_with}
 pub use Rattle.programs.specs.chunkplan.seen.Pieces.{comma_before, ranges_tokens}
 pub use Rattle.programs.specs.chunkplan.seen.Pieces.{begin_of_task, begin_task_tokens, end_of_task, item_text, middle_of_task, middle_task_tokens, text_as, whole_if_tokens}
-pub use Rattle.programs.specs.declared.chunkplan.line.Order.{Order}
-pub use Rattle.programs.specs.declared.chunkplan.line.Order.TheVariants.{Source, Target}
+pub use Rattle.zarrs_chunk_tasks.specs.declared.order.Order.{Order}
+pub use Rattle.zarrs_chunk_tasks.specs.declared.order.Order.TheVariants.{Source, Target}
 pub use Rattle.programs.specs.declared.chunkplan.run_fault.RunFault.{RunFault}
 pub use Rattle.programs.specs.declared.chunkplan.run_fault.RunFault.TheVariants.{KeyNotText, KeysOfLongDocument, Memory, NotJson, Read}
 pub use Rattle.programs.specs.declared.chunkplan.run_fault.RunFault.TheVariants.{SubsetDimensionality, TooManyForKeys, Uncovered, Write}
@@ -70,7 +70,7 @@ pub use Rattle.zarrs_chunk_plan.proofs.SomeResizes.{one_more_change}
 pub use Rattle.zarrs_chunk_plan.proofs.Walked.{HaveCome, at_first, at_last, one_more, plan_of}
 pub use Rattle.zarrs_chunk_plan.specs.Counted.{counted}
 pub use Rattle.zarrs_chunk_plan.specs.Counts.{AreReadCounts, product}
-pub use Rattle.zarrs_chunk_plan.specs.Rechunking.{array_box}
+pub use Rattle.zarrs_chunk_plan.specs.ArrayBoxes.{array_box}
 pub use Rattle.zarrs_chunk_plan.specs.Region.{moved}
 pub use Rattle.zarrs_chunk_plan.specs.Shares.{before_share, share_of}
 pub use Rattle.zarrs_chunk_plan.specs.StoredChunks.{IsListed, IsOfArray}

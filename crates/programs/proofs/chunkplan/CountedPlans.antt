@@ -5,7 +5,7 @@ use Rattle.zarrs_chunk_plan.specs.declared.stored_array.StoredArray.{StoredArray
 use Rattle.zarrs_chunk_plan.specs.seen.ReadCounts.{AreCountsOf}
 use Rattle.programs.specs.chunkplan.Planned.{IsReadPlan}
 use Rattle.programs.specs.chunkplan.seen.Opened.{dimensions_of, key_of}
-use Rattle.programs.proofs.chunkplan.Begun.{keys_in}
+use Rattle.zarrs_chunk_questions.proofs.PartsAhead.{keys_in}
 
 pub counted_parts : (array : StoredArray ChunkGrid ChunkKeyEncoding) (subset : Box) (counts : Counts) → IsBox subset
     → length subset.start ≡ length (dimensions_of array) → AreCountsOf (dimensions_of array) (key_of array) subset counts

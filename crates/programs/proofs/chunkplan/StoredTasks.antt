@@ -11,14 +11,15 @@ use Rattle.zarrs_chunk_plan.proofs.KnownMarks.{mark_tells}
 use Rattle.zarrs_chunk_tasks.specs.declared.task.Task.{Task}
 use Rattle.zarrs_chunk_tasks.proofs.TaskPlans.{inside_by_source, inside_by_target}
 use Rattle.programs.specs.chunkplan.Planned.{Array, beside_by, copy_beside, source_in, target_in, target_shape, text_beside}
-use Rattle.programs.specs.chunkplan.Stages.{AreStagePlans, AreTasksBy}
+use Rattle.programs.specs.chunkplan.Stages.{AreStagePlans}
+use Rattle.zarrs_chunk_tasks.specs.Tasks.{AreTasksBy}
 use Rattle.programs.specs.chunkplan.seen.Missing.{HaveMarked, HaveNoted, are_stored, is_stored_whole, share_unless_stored}
 use Rattle.programs.specs.chunkplan.seen.Opened.{dimensions_of, key_of}
 use Rattle.programs.specs.chunkplan.seen.PlannedTasks.{HasPartsOf}
 use Rattle.programs.specs.chunkplan.seen.Routes.{stage_of}
 use Rattle.programs.specs.chunkplan.seen.Steps.{ReadLeaves}
-use Rattle.programs.specs.declared.chunkplan.line.Order.{Order}
-use Rattle.programs.specs.declared.chunkplan.line.Order.TheVariants.{Source, Target}
+use Rattle.zarrs_chunk_tasks.specs.declared.order.Order.{Order}
+use Rattle.zarrs_chunk_tasks.specs.declared.order.Order.TheVariants.{Source, Target}
 use Rattle.programs.specs.declared.chunkplan.route.Stage.{Stage as StageValue}
 use Rattle.programs.proofs.chunkplan.KeySteps.{read_later}
 use Rattle.programs.proofs.chunkplan.StoredParts.{both_true}

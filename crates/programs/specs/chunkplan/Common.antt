@@ -8,8 +8,8 @@ pub use Rattle.json.specs.Print.{print}
 pub use Rattle.json.specs.Token.{Token, begin_array, begin_object, boolean, end_array, end_object, key}
 pub use Rattle.json.specs.Tree.{json_tokens, members_tokens}
 pub use Rattle.programs.specs.declared.chunkplan.known_members.UnknownMember.{UnknownMember}
-pub use Rattle.programs.specs.declared.chunkplan.line.Order.{Order}
-pub use Rattle.programs.specs.declared.chunkplan.line.Order.TheVariants.{Source, Target}
+pub use Rattle.zarrs_chunk_tasks.specs.declared.order.Order.{Order}
+pub use Rattle.zarrs_chunk_tasks.specs.declared.order.Order.TheVariants.{Source, Target}
 pub use Rattle.programs.specs.declared.chunkplan.run_fault.RunFault.{RunFault}
 pub use Rattle.programs.specs.declared.chunkplan.run_fault.RunFault.TheVariants.{AtDimensionality, ChunksDimensionality, Encoding, Grid, KeyNotText}
 pub use Rattle.programs.specs.declared.chunkplan.run_fault.RunFault.TheVariants.{KeysOfLongDocument, Memory, Metadata, Missing, NoSuchStage}
@@ -41,7 +41,7 @@ pub use Rattle.zarrs_chunk_keys.specs.seen.Encodings.{encoding_in}
 pub use Rattle.zarrs_chunk_parts.specs.declared.part.Part.{Part}
 pub use Rattle.zarrs_chunk_plan.specs.Counted.{counted}
 pub use Rattle.zarrs_chunk_plan.specs.Counts.{AreReadCounts, product}
-pub use Rattle.zarrs_chunk_plan.specs.Rechunking.{AreElementsOf, array_box}
+pub use Rattle.zarrs_chunk_plan.specs.ArrayBoxes.{AreElementsOf, array_box}
 pub use Rattle.zarrs_chunk_plan.specs.Region.{IsRegionFault, moved}
 pub use Rattle.zarrs_chunk_plan.specs.Resize.{AreResized, IsUsed}
 pub use Rattle.zarrs_chunk_plan.specs.Shares.{before_share, share_of}

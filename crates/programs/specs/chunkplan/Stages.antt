@@ -9,11 +9,11 @@ use Rattle.std.specs.List.{AllZip}
 use Rattle.zarrs_chunk_base.specs.Grid.{Grid}
 use Rattle.zarrs_chunk_base.specs.declared.chunk_key_separator.ChunkKeySeparator.TheVariants.{Slash}
 use Rattle.zarrs_chunk_keys.specs.ChunkKey.{Encoding}
-use Rattle.zarrs_chunks.specs.Subsets.{IsCover}
 use Rattle.zarrs_chunk_plan.specs.Region.{CanBeMoved}
 use Rattle.zarrs_chunk_tasks.specs.Counts.{AreTaskCounts}
+use Rattle.zarrs_chunk_tasks.specs.Few.{HaveMany, most_to_choose, most_to_count}
 use Rattle.zarrs_chunk_tasks.specs.Stages.{AreExactIfFew, FindsStages, IsOfEmptyRegion}
-use Rattle.zarrs_chunk_tasks.specs.Tasks.{AreTasksBySource, AreTasksByTarget, HasParts, HasTasks, IsTasksFault}
+use Rattle.zarrs_chunk_tasks.specs.Tasks.{AreTasksBy, HasParts, HasTasks, IsTasksFault}
 use Rattle.zarrs_chunk_tasks.specs.declared.stages.CheapestStages.{CheapestStages}
 use Rattle.programs.specs.chunkplan.Document.{TaskChoice, cheapest, given}
 use Rattle.programs.specs.chunkplan.RunFault.{of_region, of_tasks}
@@ -30,11 +30,6 @@ pub record Stage : Type 0 where
   pub intermediate : Option (List ℕ)
 
 -- ---- the tasks of a stage
-
--- the tasks by groups of the target's chunks, or of the source's
-abbrev pub AreTasksBy : Order → (source target : List Dimension) → (each : List ℕ) → (region : Box) → (at : List ℕ) → List CopyTask → Type 0
-AreTasksBy Target source target each region at = AreTasksByTarget target each region at
-AreTasksBy Source source target each region at = AreTasksBySource source each region at
 
 module _ (stage : Stage) where
   abbrev pub source_dimensions : List Dimension
@@ -110,20 +105,6 @@ pub record NoneFits (source target : List Dimension) (region : Box) (at : List �
   pub lies : CanBeMoved (array_sizes source) (array_sizes target) region at
   pub some : ¬ IsEmptyBox region
   pub finds : FindsStages source target region at most read None
-
--- up to how many chunks along a dimension tasks are chosen, and up to how many they are counted in any case
-abbrev pub most_to_choose : ℕ
-most_to_choose = 131072
-
-abbrev pub most_to_count : ℕ
-most_to_count = 1048576
-
--- more chunks than this hold some of a box, along some dimension; so it is in one of the two arrays
-abbrev pub HasMany : (most : ℕ) → List Dimension → Box → Type 0
-HasMany most ds b = (cover : Box) × IsCover ds b cover × ((n : ℕ) × Contains cover.shape n × (most < n))
-
-abbrev pub HaveMany : (most : ℕ) → (source target : List Dimension) → (region moved : Box) → Type 0
-HaveMany most source target region moved = HasMany most source region ⊎ HasMany most target moved
 
 -- stages, and whether they are exact, if they were chosen
 abbrev pub Stages : Type 0

@@ -4,21 +4,20 @@ ghost use Rattle.programs.specs.chunkplan.Common.{ℕ, IfOk, List, MatchResult, 
 ghost use Rattle.programs.specs.chunkplan.CountsLine.{IsCount, IsCountedStage, IsCountsLine, IsCountsObject, IsStageObject, IsStagesLine, flag_text, shape_text};
 ghost use Rattle.programs.specs.chunkplan.Line.{numbers_json};
 ghost use Rattle.programs.specs.chunkplan.Stages.{AreStageCounts, IsCountFault, IsFaultOfSome};
-ghost use Rattle.programs.specs.chunkplan.seen.Digits.{count_along};
+ghost use Rattle.zarrs_chunk_tasks.specs.Counts.{count_along};
 ghost use Rattle.programs.specs.chunkplan.seen.Pieces.{comma_but_first};
 ghost use Rattle.programs.specs.chunkplan.seen.Routes.{stage_of};
 
 use crate::chunkplan::RunFault;
-use crate::chunkplan::few_chunks::can_count;
-use crate::chunkplan::line::{Order, write_list};
-use crate::chunkplan::product::{Count, count_text, product_text};
+use crate::chunkplan::line::write_list;
+use crate::chunkplan::product::{count_text, product_text};
 use crate::chunkplan::route::Stage;
 use crate::chunkplan::stages::numbers_of;
 use json::Writer;
 use std::alloc::{AllocError, Global};
 use zarrs_chunk_base::ArrayShape;
 use zarrs_chunk_plan::Counts;
-use zarrs_chunk_tasks::{CountsAlong, task_counts, task_counts_by_source};
+use zarrs_chunk_tasks::{Count, CountsAlong, can_count, task_counts_by};
 
 /// How many bytes the line is given room for at first.
 const LINE_LEN: usize = 192;
@@ -168,23 +167,16 @@ fn counts_of_stage(alloc: Global, stage: &Stage<'_>) -> Result<Vec<CountsAlong>,
     if !can {
         return Err(RunFault::TooManyToCount);
     }
-    match stage.order {
-        Order::Target => {
-            let counts = task_counts(alloc, source, target, &stage.region, at, stage.each)?;
-            Ok(counts)
-        }
-        Order::Source => {
-            let counts = task_counts_by_source(
-                alloc,
-                source,
-                target,
-                &stage.region,
-                at,
-                stage.each,
-            )?;
-            Ok(counts)
-        }
-    }
+    let counts = task_counts_by(
+        alloc,
+        stage.order,
+        source,
+        target,
+        &stage.region,
+        at,
+        stage.each,
+    )?;
+    Ok(counts)
 }
 
 /// Appends the object of these counts of a stage.

@@ -22,15 +22,6 @@ use zarrs_chunk_plan::{Change, ChunkChange, Held, Part};
 /// How many bytes a line is given room for at first.
 const LINE_LEN: usize = 192;
 
-/// Of which array tasks take whole chunks.
-#[derive(Clone, Copy, Drop)]
-pub(crate) enum Order {
-    /// Of the target: no chunk of it is in two tasks.
-    Target,
-    /// Of the source: no chunk of it is in two tasks.
-    Source,
-}
-
 /// How a part is written.
 #[derive(Clone, Copy)]
 pub(crate) enum Form {

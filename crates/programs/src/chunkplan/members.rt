@@ -4,12 +4,12 @@ ghost use Rattle.documents.specs.declared.document_fault.DocumentFault.TheVarian
 ghost use Rattle.programs.specs.chunkplan.Document.{box_in, box_of, flag_in, line_order_in, share_in};
 
 use crate::chunkplan::RunFault;
-use crate::chunkplan::line::Order;
 use documents::{DocumentFault, optional_member};
 use serde_json::Value;
 use std::alloc::Global;
 use zarrs_chunk_base::{ArraySubset, TreeForm};
 use zarrs_chunk_plan::Share;
+use zarrs_chunk_tasks::Order;
 
 /// What a flag of a document says; false where it is absent.
 pub(crate) fn member_flag(tree: &Value, field: &'static str) -> Result<bool, DocumentFault>

@@ -1,6 +1,6 @@
 //! The plan that a document asks for.
 ghost use Rattle.std.specs.Prelude.{◌≡◌, ◌⊎◌};
-ghost use Rattle.programs.specs.chunkplan.Common.{IfErr, IfOk, None, length, option_map, unwrap_or, AllFit, grid_in, array_box, AreResized, IsReadOr};
+ghost use Rattle.programs.specs.chunkplan.Common.{IfErr, IfOk, None, length, option_map, unwrap_or, grid_in, array_box, AreResized, IsReadOr};
 ghost use Rattle.programs.specs.chunkplan.Common.{stored_of, Memory, written};
 ghost use Rattle.programs.specs.chunkplan.CountsLine.{IsCountsLine};
 ghost use Rattle.programs.specs.chunkplan.Document.{copying_of, counts_wanted, document_of, lines_wanted, ranges_asked_of, selection_of, wanted_of};
@@ -24,6 +24,7 @@ use std::alloc::{AllocError, Global};
 use std::io::Write;
 use streams::Sink;
 use zarrs_chunk_base::{ArraySubset, IncompatibleDimensionalityError, Refusal};
+use zarrs_chunk_plan::laws::all_fit;
 use zarrs_chunk_plan::{Counts, Share, changes, counts_of_read, parts, whole_array};
 use zarrs_chunks::{ChunkGrid, ChunkGridTraits};
 
@@ -296,19 +297,12 @@ fn write_resize<W: Write>(
         (λ _. ⊥) result
         (written W.contents sink.old) (written W.contents sink.new) }
 {
-    fit(array.grid.array_shape());
-    fit(after.array_shape());
+    all_fit(array.grid.array_shape());
+    all_fit(after.array_shape());
     match changes(alloc, &array.grid, after, &array.encoding, keep) {
         Ok(walk) => write_changes(alloc, walk, sink),
         // Never: a resize keeps the number of dimensions.
         Err(Refusal::Refused(_)) => unreachable!(),
         Err(Refusal::Memory(_)) => Err(RunFault::Memory),
     }
-}
-
-/// A law: the sizes are numbers of 64 bits.
-pub(crate) fn fit(sizes: &[u64])
-    ensures { AllFit sizes.now }
-{
-    let _ = sizes;
 }

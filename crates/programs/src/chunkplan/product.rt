@@ -1,38 +1,14 @@
 //! Products of numbers, in decimal digits, however large they are.
 ghost use Rattle.std.specs.Prelude.{◌≡◌, ◌+◌, ◌*◌, ◌<◌, ◌≤◌};
 ghost use Rattle.programs.specs.chunkplan.Common.{ℕ, IfOk, OnOk, IsNumeral, in_all, product};
-ghost use Rattle.programs.specs.chunkplan.seen.Digits.{AreDigits, HasText, count_along, value};
+ghost use Rattle.programs.specs.chunkplan.seen.Digits.{AreDigits, HasText, value};
+ghost use Rattle.zarrs_chunk_tasks.specs.Counts.{count_along};
 
 use std::alloc::{AllocError, Global};
-use zarrs_chunk_tasks::CountsAlong;
+use zarrs_chunk_tasks::{Count, CountsAlong};
 
 /// How many digits a number of 128 bits has at most.
 const LONGEST: usize = 39;
-
-/// What is counted of tasks.
-#[derive(Clone, Copy)]
-pub(crate) enum Count {
-    ChunksRead,
-    ChunksWritten,
-    ElementsDecoded,
-    LargestTask,
-    Tasks,
-}
-
-impl Count {
-    /// The count along one dimension.
-    fn along(self, counts: &CountsAlong) -> u128
-        ensures { result ≡ count_along self counts.now }
-    {
-        match self {
-            Count::ChunksRead => counts.chunks_read as u128,
-            Count::ChunksWritten => counts.chunks_written as u128,
-            Count::ElementsDecoded => counts.elements_decoded,
-            Count::LargestTask => counts.largest_task as u128,
-            Count::Tasks => counts.tasks as u128,
-        }
-    }
-}
 
 /// The digits of a product, the first one first.
 ///

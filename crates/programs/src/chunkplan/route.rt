@@ -3,10 +3,10 @@ ghost use Rattle.std.specs.Prelude.{◌≡◌, length, suc};
 ghost use Rattle.zarrs_chunk_keys.specs.seen.Encodings.{encoding_in};
 ghost use Rattle.programs.specs.chunkplan.Stages.{intermediate_keys};
 
-use crate::chunkplan::line::Order;
 use crate::chunkplan::opened::OpenedArray;
 use std::num::NonZeroU64;
 use zarrs_chunk_base::{ArrayShape, ArraySubset};
+use zarrs_chunk_tasks::Order;
 
 /// An intermediate array. It has a regular grid, and the default keys with the separator `/`.
 #[derive(Drop)]

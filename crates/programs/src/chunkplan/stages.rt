@@ -11,8 +11,6 @@ ghost use Rattle.programs.specs.chunkplan.seen.Routes.{intermediate_of, stage_of
 
 use crate::chunkplan::RunFault;
 use crate::chunkplan::document::{Copying, RegionAsked, Selection};
-use crate::chunkplan::few_chunks::can_choose;
-use crate::chunkplan::line::Order;
 use crate::chunkplan::opened::OpenedArray;
 use crate::chunkplan::route::{FoundRoute, Intermediate, Route, Stage};
 use crate::chunkplan::task_choice::TaskChoice;
@@ -21,7 +19,9 @@ use std::num::NonZeroU64;
 use zarrs_chunk_base::{ArrayShape, ArraySubset, ChunkShape, Refusal};
 use zarrs_chunk_keys::{ChunkKeyEncoding, DefaultChunkKeyEncoding};
 use zarrs_chunk_plan::{elements_of_chunks, moved_box, whole_array};
-use zarrs_chunk_tasks::{CheapestTasks, cheapest_stages};
+use zarrs_chunk_tasks::{
+    CheapestTasks, Order, at_or_zeros, can_choose, cheapest_stages, task_chunks_or_ones,
+};
 use zarrs_chunks::{ChunkGrid, ChunkGridTraits, RegularChunkGrid};
 
 /// Finds the route of a copy.
@@ -88,27 +88,9 @@ fn first_index(
 {
     match selection {
         Selection::Region(RegionAsked { at, .. }) => {
-            or_zeros(alloc, at, elements.dimensionality())
+            at_or_zeros(alloc, at, elements.dimensionality())
         }
         _ => elements.start().to_vec(alloc),
-    }
-}
-
-/// The numbers, or this number of zeros.
-///
-/// # Errors
-/// Out of memory.
-fn or_zeros(alloc: Global, numbers: Option<Vec<u64>>, count: usize) -> Result<Vec<u64>, AllocError>
-    ensures { IfOk result (λ v. v.items
-        ≡ unwrap_or (option_map (λ ns. ns.items) numbers) (replicate count 0)) }
-{
-    match numbers {
-        Some(numbers) => Ok(numbers),
-        None => {
-            let mut zeros = Vec::with_capacity(alloc, count)?;
-            zeros.resize(count, 0)?;
-            Ok(zeros)
-        }
     }
 }
 
@@ -132,34 +114,11 @@ fn route_of_region(
 {
     match choice {
         TaskChoice::Given(order, each) => {
-            let task_chunks = or_ones(alloc, each, source.grid.dimensionality())?;
+            let task_chunks = task_chunks_or_ones(alloc, each, source.grid.dimensionality())?;
             Ok(route_of_one(alloc, order, task_chunks)?)
         }
         TaskChoice::Cheapest(most, read, _) => {
             cheapest_route(alloc, source, target, region, at, most, read)
-        }
-    }
-}
-
-/// The numbers, or this number of ones.
-///
-/// # Errors
-/// Out of memory.
-fn or_ones(
-    alloc: Global,
-    numbers: Option<Vec<NonZeroU64>>,
-    count: usize,
-) -> Result<Vec<NonZeroU64>, AllocError>
-    ensures { IfOk result (λ v. map non_zero_u64_get v.items
-        ≡ unwrap_or (option_map (λ ns. map non_zero_u64_get ns.items) numbers)
-        (replicate count 1)) }
-{
-    match numbers {
-        Some(numbers) => Ok(numbers),
-        None => {
-            let mut ones = Vec::with_capacity(alloc, count)?;
-            ones.resize(count, NonZeroU64::MIN)?;
-            Ok(ones)
         }
     }
 }

@@ -5,12 +5,12 @@ ghost use Rattle.documents.specs.declared.document_fault.DocumentFault.TheVarian
 ghost use Rattle.programs.specs.chunkplan.Document.{choice_in, choice_of};
 ghost use Rattle.programs.specs.chunkplan.Document.{usual_read_elements};
 
-use crate::chunkplan::line::Order;
 use crate::chunkplan::members::member_order;
 use documents::{DocumentFault, optional_member};
 use serde_json::Value;
 use std::alloc::Global;
 use std::num::NonZeroU64;
+use zarrs_chunk_tasks::Order;
 
 /// What one read is worth, in elements, if a document doesn't say: ten megabytes of elements of four bytes.
 const READ_ELEMENTS: u64 = 2500000;

@@ -15,17 +15,17 @@ ghost use Rattle.documents.specs.Reading.{made_of};
 
 use crate::chunkplan::RunFault;
 use crate::chunkplan::copying::{following, send_text, write_parts};
-use crate::chunkplan::line::{Form, Order, task_begin, task_end, task_middle};
+use crate::chunkplan::line::{Form, task_begin, task_end, task_middle};
 use crate::chunkplan::opened::{OpenedArray, OpenedParts, OpenedTasks};
-use crate::chunkplan::plan::fit;
 use crate::chunkplan::route::Stage;
 use std::alloc::{AllocError, Global};
 use std::io::Write;
 use streams::Sink;
 use zarrs_chunk_base::ArraySubset;
 use zarrs_chunk_parts::expect_answer;
+use zarrs_chunk_plan::laws::all_fit;
 use zarrs_chunk_plan::{Part, Share, StoredChunks, parts};
-use zarrs_chunk_tasks::{Task, tasks, tasks_by_source};
+use zarrs_chunk_tasks::{Task, tasks_by};
 use zarrs_chunks::ChunkGridTraits;
 
 /// Sends a share of the lines of a stage's tasks.
@@ -54,14 +54,11 @@ pub(crate) fn tasks_of<'a>(alloc: Global, stage: &Stage<'a>) -> Result<OpenedTas
     ensures { MatchResult result (HasPlansOf stage.now)
         (λ fault. (fault ≡ Memory) ⊎ IsStageFault (stage_of stage.now) fault) }
 {
-    fit(stage.source.grid.array_shape());
-    fit(stage.target.grid.array_shape());
+    all_fit(stage.source.grid.array_shape());
+    all_fit(stage.target.grid.array_shape());
     let (from, into) = (&stage.source.grid, &stage.target.grid);
     let at = stage.at.as_slice();
-    match stage.order {
-        Order::Target => Ok(tasks(alloc, from, into, &stage.region, at, stage.each)?),
-        Order::Source => Ok(tasks_by_source(alloc, from, into, &stage.region, at, stage.each)?),
-    }
+    Ok(tasks_by(alloc, stage.order, from, into, &stage.region, at, stage.each)?)
 }
 
 /// Sends the lines of a share of all tasks that a walk gives, which is at its beginning. A task is left out if all chunks that it writes are known to be stored,

@@ -27,26 +27,3 @@ module _ {X Y : Type 0} (f : X → Y) where
       let (z, (j, counted, is), same) = source_of f xs (get_or (map f xs) k d) (Contains-get_or (map f xs) k d within) in
       subst (Q (f x)) same (subst (λ w. Q (f x) (f w)) is (all zero (suc j) z (omega arith) (omega arith))))
       (pairs_mapped Q xs (λ i j d before within. all (suc i) (suc j) d (omega arith) (omega arith)))
-
-module _ {X Y : Type 0} (f : X → List Y) where
-  pub in_some : (xs : List X) (y : Y) → Contains (flat_map f xs) y → (x : X) × Contains xs x × Contains (f x) y
-  in_some [] y (k, within, is) = absurd (omega arith)
-  in_some (x ∷ xs) y has =
-      ⊎_elim (λ here. (x, (zero, omega arith, refl), here))
-      (λ there. let (z, among, in_z) = in_some xs y there in (z, Contains-append_right (x ∷ []) xs z among, in_z))
-      (Contains-append_cases (f x) (flat_map f xs) y has)
-
-  pub in_joined : (xs : List X) (x : X) (y : Y) → Contains xs x → Contains (f x) y → Contains (flat_map f xs) y
-  in_joined [] x y (k, within, is) has = absurd (omega arith)
-  in_joined (z ∷ xs) x y (zero, within, is) has = Contains-append_left (f z) (flat_map f xs) y (subst (λ w. Contains (f w) y) (sym is) has)
-  in_joined (z ∷ xs) x y (suc k, within, is) has = Contains-append_right (f z) (flat_map f xs) y (in_joined xs x y (k, omega arith, is) has)
-
-  pub pairs_joined : (Q : Y → Y → Type 0) (xs : List X) → ((x : X) → Contains xs x → AllPairs Q (f x))
-      → AllPairs (λ x z. (y w : Y) → Contains (f x) y → Contains (f z) w → Q y w) xs → AllPairs Q (flat_map f xs)
-  pairs_joined Q [] each across = λ i j d before within. absurd (omega arith)
-  pairs_joined Q (x ∷ xs) each across =
-      pairs_of_both Q (f x) (flat_map f xs) (each x (zero, omega arith, refl))
-      (pairs_joined Q xs (λ z among. each z (Contains-append_right (x ∷ []) xs z among)) (λ i j d before within. across (suc i) (suc j) d (omega arith) (omega arith)))
-      (λ y w has also.
-      let (z, (k, counted, is), in_z) = in_some xs w also in
-      across zero (suc k) z (omega arith) (omega arith) y w has (subst (λ v. Contains (f v) w) (sym is) in_z))

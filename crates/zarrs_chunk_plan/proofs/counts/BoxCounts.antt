@@ -23,8 +23,3 @@ box_many b P is_box same = record {
   );
   as_many = in_box_many b;
 }
-
-pub product_of_none : (shape : List ℕ) → Contains shape 0 → product shape ≡ 0
-product_of_none [] (k, within, is) = absurd (omega arith)
-product_of_none (n ∷ shape) (zero, within, is) = let none : n ≡ 0 = is in rw none (omega arith)
-product_of_none (n ∷ shape) (suc k, within, is) = let none = product_of_none shape (k, omega arith, is) in rw none (omega arith)

@@ -1,5 +1,4 @@
--- How many chunks of the source share elements with a chunk of the target, dimension by dimension, where a box of the source's elements goes to a box
--- of the target's.
+-- How many chunks hold some of a range, and what a chunk holds of it, dimension by dimension.
 use Rattle.std.specs.Prelude.{◌≡◌, ℕ, zero, suc, ◌+◌, ◌-◌, ◌<◌, ◌≤◌, IsTrue, List, [], ◌∷◌, cond, fold, length, map, max, min, nat_lt}
 use Rattle.std.specs.List.{range_with_len, sum}
 use Rattle.zarrs_chunk_base.specs.ArraySubset.{Box, IsBox, IsInside}
@@ -8,7 +7,6 @@ use Rattle.zarrs_chunk_base.specs.Greatest.{greatest}
 use Rattle.zarrs_chunk_axes.specs.Along.{Along}
 use Rattle.zarrs_chunk_parts.specs.Plan.{Meets}
 use Rattle.zarrs_chunk_plan.specs.Region.{LiesIn}
-use Rattle.zarrs_chunk_plan.specs.declared.counts.sources.Side.{Side}
 
 -- the chunk that holds an index, looked for among so many from a first one on
 abbrev pub home_from : Dimension → (many first index : ℕ) → ℕ
@@ -33,14 +31,6 @@ taken d at size chunk = min (d.end chunk) (at + size) - taken_from d at chunk
 abbrev pub met_along : (source target : Dimension) → (first at size chunk : ℕ) → ℕ
 met_along source target first at size chunk = met source (first + (taken_from target at chunk - at)) (taken target at size chunk)
 
--- with each of `chunks` chunks of the target, from `chunk` on
-abbrev pub met_by_range : (source target : Dimension) → (first at size chunk chunks : ℕ) → List ℕ
-met_by_range source target first at size chunk chunks = map (met_along source target first at size) (range_with_len chunk chunks)
-
--- the two numbers are the sum of a list, and its greatest number
-abbrev pub AreSumAndMost : List ℕ → ℕ × ℕ → Type 0
-AreSumAndMost row (in_all, most) = (in_all ≡ sum row) × (most ≡ fold max 0 row)
-
 -- the chunk takes some of a range from `at` on
 abbrev pub TakesSome : Dimension → (at size chunk : ℕ) → Type 0
 TakesSome d at size chunk = IsTrue (d.has_chunk chunk) × (max at (d.start chunk) < min (d.end chunk) (at + size))
@@ -48,26 +38,6 @@ TakesSome d at size chunk = IsTrue (d.has_chunk chunk) × (max at (d.start chunk
 -- and so does each of `chunks` chunks from `first` on
 abbrev pub RangeTakes : Dimension → (at size first chunks : ℕ) → Type 0
 RangeTakes d at size first chunks = (chunk : ℕ) → first ≤ chunk → chunk < first + chunks → TakesSome d at size chunk
-
--- one dimension of a copy: the range lies in both arrays, and each of the chunks takes some of it
-pub record AreRanges (source target : Dimension) (first at size chunk chunks : ℕ) : Type 0 where
-  pub in_source : first + size ≤ source.array_size
-  pub in_target : at + size ≤ target.array_size
-  pub source_fits : first + size ≤ greatest
-  pub target_fits : at + size ≤ greatest
-  pub chunks_fit : chunk + chunks ≤ greatest
-  pub take : RangeTakes target at size chunk chunks
-
-module _ {G H : Type 0} where
-  -- what holds of the two dimensions of a side
-  abbrev pub OfSide : (G → List Dimension) → (H → List Dimension) → Side G H → (Dimension → Dimension → Type 0) → Type 0
-  OfSide sources targets side P = Along (λ s. Along (P s) (targets side.target.now) side.target_dimension) (sources side.source.now) side.source_dimension
-
-  abbrev pub IsSide : Side G H → Dimension → Dimension → Type 0
-  IsSide side source target = AreRanges source target side.first side.at side.size side.chunk side.chunks
-
-  abbrev pub met_by_side : Side G H → Dimension → Dimension → List ℕ
-  met_by_side side source target = met_by_range source target side.first side.at side.size side.chunk side.chunks
 
 -- along each dimension, where a box goes to another
 abbrev pub counters_from : (source target : List Dimension) → (first at shape : List ℕ) → List (ℕ → ℕ)
@@ -98,13 +68,3 @@ taken_sizes _ _ _ _ = []
 
 abbrev pub taken_box : List Dimension → Box → List ℕ → Box
 taken_box ds b chunk = record { start = taken_starts ds b.start chunk; shape = taken_sizes ds b.start b.shape chunk }
-
--- chunks of the target that each take some elements of a box, which goes from one array to the other
-pub record AreTaking (source target : List Dimension) (region moved targets : Box) : Type 0 where
-  pub in_source : LiesIn region (array_sizes source)
-  pub in_target : LiesIn moved (array_sizes target)
-  pub one_shape : moved.shape ≡ region.shape
-  pub is_moved : IsBox moved
-  pub is_box : IsBox targets
-  pub long : length targets.start ≡ length target
-  pub meet : (chunk : List ℕ) → IsInside targets chunk → Meets target moved chunk

@@ -1,18 +1,17 @@
 //! The elements of an array that chunks hold.
-ghost use Rattle.std.specs.Prelude.{◌≡◌, ◌≢◌, ◌<◌, ◌≤◌, ◌↔◌, ℕ, IfErr, IfOk, List, length};
+ghost use Rattle.std.specs.Prelude.{◌≡◌, ◌≢◌, ◌<◌, ◌≤◌, ◌↔◌, ℕ, IfErr, IfOk, List, Some, length};
 ghost use Rattle.zarrs_chunk_base.specs.ArraySubset.{IsEmptyBox, IsInside};
 ghost use Rattle.zarrs_chunk_base.specs.Dimension.{InBox, array_sizes};
 ghost use Rattle.zarrs_chunk_base.specs.Refusal.{HasMemory, OrMemory, TellsLengths};
 ghost use Rattle.zarrs_chunk_axes.specs.Along.{Along};
 ghost use Rattle.zarrs_chunk_axes.specs.InBounds.{AreBelow};
 ghost use Rattle.zarrs_chunk_parts.specs.Plan.{Meets};
-ghost use Rattle.zarrs_chunk_plan.specs.Rechunking.{AreElementsOf, array_box};
+ghost use Rattle.zarrs_chunk_plan.specs.ArrayBoxes.{AreElementsOf, array_box};
 ghost use Rattle.zarrs_chunk_plan.specs.Region.{LiesIn};
 ghost use Rattle.zarrs_chunk_plan.specs.seen.Used.{HoldsSome, IsHeldRange};
 
 use crate::boxes_from_zero::whole_array;
-use crate::copy::rechunking::chunks_of_array;
-use crate::counts::sources::expect_found;
+use crate::copy::array_chunks::chunks_of_array;
 use crate::laws::all_fit;
 use std::alloc::{AllocError, Global};
 use zarrs_chunk_base::{ArraySubset, IncompatibleDimensionalityError, Refusal};
@@ -107,4 +106,14 @@ fn elements_along<G: ChunkGridTraits>(
     all_fit(sizes);
     let end = last_start.saturating_add(edge).min(sizes[dimension]);
     Ok((start, end.saturating_sub(start)))
+}
+
+/// Returns what was found of a number that a chunk has. Nothing is found only if it is out of memory.
+///
+/// # Errors
+/// Out of memory.
+pub(crate) fn expect_found<T: Drop>(found: Option<T>) -> Result<T, AllocError>
+    ensures { IfOk result (λ value. found ≡ Some value) }
+{
+    found.ok_or(AllocError)
 }

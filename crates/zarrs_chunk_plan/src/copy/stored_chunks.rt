@@ -7,7 +7,7 @@ ghost use Rattle.zarrs_chunk_axes.specs.RowMajor.{row_major};
 ghost use Rattle.zarrs_chunks.specs.Walks.{chunks_in};
 
 use crate::boxes_from_zero::{whole_array, zeros};
-use crate::copy::rechunking::chunks_of_array;
+use crate::copy::array_chunks::chunks_of_array;
 use crate::read::walk::Parts;
 use crate::shares::numbered_chunks::count_below;
 use crate::stored_array::StoredArray;

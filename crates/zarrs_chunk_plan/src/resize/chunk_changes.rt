@@ -35,7 +35,7 @@ impl<'a, G: ChunkGridTraits, H: ChunkGridTraits, E: ChunkKeyEncodingTraits> Chan
     ghost use Rattle.zarrs_chunks.specs.Walks.{Gives};
     ghost use Rattle.zarrs_chunk_axes.specs.InBounds.{AreBelow};
     ghost use Rattle.zarrs_chunk_plan.specs.Counted.{counted};
-    ghost use Rattle.zarrs_chunk_plan.specs.Rechunking.{array_box};
+    ghost use Rattle.zarrs_chunk_plan.specs.ArrayBoxes.{array_box};
     ghost use Rattle.zarrs_chunk_plan.specs.Resize.{AreChangedChunks, IsChange, IsUsed};
     ghost use Rattle.zarrs_chunk_plan.specs.seen.Changes.{CanChange, IsAboutResize, IsSameWalk, all_changes, changes_to_come};
     ghost use Rattle.zarrs_chunk_plan.specs.seen.ChunkIter.{chunks_between};
@@ -216,7 +216,7 @@ ghost use Rattle.std.specs.Prelude.{◌≡◌, ◌↔◌, ◌+◌, ℕ, IfOk, Is
 ghost use Rattle.zarrs_chunk_axes.specs.InBounds.{AreBelow};
 ghost use Rattle.zarrs_chunks.specs.Walks.{chunks_in};
 ghost use Rattle.zarrs_chunk_plan.specs.Counted.{counted};
-ghost use Rattle.zarrs_chunk_plan.specs.Rechunking.{array_box};
+ghost use Rattle.zarrs_chunk_plan.specs.ArrayBoxes.{array_box};
 ghost use Rattle.zarrs_chunk_plan.specs.Resize.{IsUsed, MayHold};
 ghost use Rattle.zarrs_chunk_plan.specs.seen.Changes.{what_becomes};
 ghost use Rattle.zarrs_chunk_plan.specs.seen.ChunkIter.{chunks_between};

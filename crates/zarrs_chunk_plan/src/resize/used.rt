@@ -2,13 +2,13 @@
 ghost use Rattle.std.specs.Prelude.{◌≡◌, ◌↔◌, ◌<◌, ◌≤◌, ℕ, IfOk, List, length, replicate};
 ghost use Rattle.std.specs.List.{Contains};
 ghost use Rattle.zarrs_chunk_axes.specs.InBounds.{AreBelow};
-ghost use Rattle.zarrs_chunk_plan.specs.Rechunking.{array_box};
+ghost use Rattle.zarrs_chunk_plan.specs.ArrayBoxes.{array_box};
 ghost use Rattle.zarrs_chunk_plan.specs.Resize.{AreBelowCounts, AreResized, IsHeld, IsKept, IsUsed};
 ghost use Rattle.zarrs_chunk_plan.specs.seen.Used.{HasExtentAlong, KeepsAlong};
 
 use crate::boxes_from_zero::whole_array;
-use crate::copy::rechunking::chunks_of_array;
-use crate::counts::sources::expect_found;
+use crate::copy::array_chunks::chunks_of_array;
+use crate::copy::chunk_elements::expect_found;
 use crate::resize::plan::Held;
 use std::alloc::{AllocError, Global};
 use zarrs_chunk_base::{ArrayShape, ArraySubset};

@@ -1,5 +1,5 @@
 -- What values of the program stand for that hold a question, or why there is none.
-use Rattle.std.specs.Prelude.{◌≡◌, ℕ, option_map, Result, Ok, Err, Vec, MatchResult, string_bytes}
+use Rattle.std.specs.Prelude.{◌≡◌, ℕ, map, option_map, Result, Ok, Err, Vec, MatchResult, string_bytes}
 use Rattle.std.specs.Int.NonZero.{non_zero_u64_get}
 use Rattle.std.specs.declared.alloc.Global.{Global}
 use Rattle.serde_json.specs.View.{view}
@@ -10,9 +10,8 @@ use Rattle.zarrs_chunk_questions.specs.Question as question
 use Rattle.zarrs_chunk_questions.specs.Reading.{Fault, Reading, missing, no_call, not_json, not_object, wrong_value}
 use Rattle.zarrs_chunk_questions.specs.declared.asked.Asked.{Asked}
 use Rattle.zarrs_chunk_questions.specs.declared.asked.Asked.TheVariants as asked
+use Rattle.zarrs_chunk_questions.specs.declared.asked.CopyAsked.{CopyAsked}
 use Rattle.zarrs_chunk_questions.specs.declared.asked.Items.{Items}
-use Rattle.zarrs_chunk_questions.specs.declared.asked.RegionAsked.{RegionAsked}
-use Rattle.zarrs_chunk_questions.specs.declared.asked.Target.{Target}
 use Rattle.zarrs_chunk_questions.specs.declared.asked.TargetArray.{TargetArray}
 use Rattle.zarrs_chunk_questions.specs.declared.bytes.BytesAsked.{BytesAsked}
 use Rattle.zarrs_chunk_questions.specs.declared.question.Question.{Question}
@@ -37,14 +36,21 @@ lists_of both = (both.0.items, both.1.items)
 abbrev pub items_of : Items → question.Items
 items_of items = record { most = items.most; first = items.first }
 
-abbrev pub target_of : Target → question.Target
-target_of target = record { chunk_grid = view target.chunk_grid.now; chunk_key_encoding = view target.chunk_key_encoding.now }
+abbrev pub target_of : TargetArray → question.TargetArray
+target_of target = record {
+  shape = option_map (λ shape. shape.items) target.shape;
+  chunk_grid = view target.chunk_grid.now;
+  chunk_key_encoding = view target.chunk_key_encoding.now;
+}
 
-abbrev pub target_array_of : TargetArray → question.TargetArray
-target_array_of target = record { shape = target.shape.items; stored = target_of target.stored }
-
-abbrev pub region_of : RegionAsked → question.RegionAsked
-region_of region = record { elements = lists_of region.elements; at = option_map (λ at. at.items) region.at }
+abbrev pub copy_asked_of : CopyAsked → question.CopyAsked
+copy_asked_of copy = record {
+  target = target_of copy.target;
+  subset = option_map lists_of copy.subset;
+  at = option_map (λ at. at.items) copy.at;
+  task_chunks = option_map (λ each. map non_zero_u64_get each.items) copy.task_chunks;
+  order = copy.order;
+}
 
 abbrev pub bytes_of : BytesAsked → question.BytesAsked
 bytes_of asked = record {
@@ -66,14 +72,8 @@ asked_of (asked.Runs dimension) = question.runs dimension
 asked_of (asked.Counted index) = question.counted index.items
 asked_of (asked.Located encoding index) = question.located (view encoding.now) index.items
 asked_of (asked.Parts encoding items lists) = question.parts (view encoding.now) (items_of items) (lists_of lists)
-asked_of (asked.Copies encoding target items chunks) =
-    question.copies (view encoding.now) (target_of target) (items_of items) (option_map lists_of chunks)
-asked_of (asked.Counts encoding target share chunks) =
-    question.counts (view encoding.now) (target_of target) (share_of share) (option_map lists_of chunks)
-asked_of (asked.CopiesOfRegion encoding target items region) =
-    question.copies_of_region (view encoding.now) (target_array_of target) (items_of items) (region_of region)
-asked_of (asked.CountsOfRegion encoding target share region) =
-    question.counts_of_region (view encoding.now) (target_array_of target) (share_of share) (region_of region)
+asked_of (asked.Tasks encoding copy items) = question.tasks (view encoding.now) (copy_asked_of copy) (items_of items)
+asked_of (asked.TaskCounts encoding copy share) = question.task_counts (view encoding.now) (copy_asked_of copy) (share_of share)
 asked_of (asked.ChangedChunks resize) = question.changed_chunks resize.items
 
 abbrev pub question_of : Question → question.Question

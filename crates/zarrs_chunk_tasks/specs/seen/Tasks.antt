@@ -7,9 +7,12 @@ use Rattle.zarrs_chunk_base.specs.ArraySubset.{Box, IsBox, IsEmptyBox, IsInside}
 use Rattle.zarrs_chunk_base.specs.Dimension.{Dimension}
 use Rattle.zarrs_chunks.specs.Subsets.{IsCover}
 use Rattle.zarrs_chunks.specs.Walks.{Gives, chunks_in}
+use Rattle.zarrs_chunk_plan.specs.Region.{moved}
 use Rattle.zarrs_chunk_plan.specs.seen.ChunkIter.{all_between, chunks_between, offsets_between}
 use Rattle.zarrs_chunk_tasks.specs.Groups.{HoldsSomeOf}
 use Rattle.zarrs_chunk_tasks.specs.Tasks.{IsTask}
+use Rattle.zarrs_chunk_tasks.specs.declared.order.Order.{Order}
+use Rattle.zarrs_chunk_tasks.specs.declared.order.Order.TheVariants.{Source, Target}
 use Rattle.zarrs_chunk_tasks.specs.declared.task.Task.{Task}
 use Rattle.zarrs_chunk_tasks.specs.declared.walk.Tasks.{Tasks}
 
@@ -57,6 +60,11 @@ module _ {G : Type 0} where
     pub are_groups : AreGroups (dimensions grid) each elements groups
     pub left : groups_to_come walk ≡ chunks_in groups
     pub all : all_groups walk ≡ chunks_in groups
+
+-- the walk has to give the tasks of the copy of a region, by groups of the chunks of one of two grids
+abbrev pub ArePlannedBy : {G : Type 0} → Order → (G → List Dimension) → (source target : G) → (each : List ℕ) → (region : Box) → (at : List ℕ) → Tasks G → Type 0
+ArePlannedBy Target dimensions source target each region at = ArePlanned dimensions target each (moved at region) region.start at
+ArePlannedBy Source dimensions source target each region at = ArePlanned dimensions source each region region.start at
 
 -- what holds of a task, where `next` gave one
 abbrev pub IfTask : (Task → Type 0) → Option (Result Task AllocError) → Type 0

@@ -1,8 +1,6 @@
 -- Numbers as lists of decimal digits, the last one first.
 use Rattle.std.specs.Prelude.{◌≡◌, ◌+◌, ◌*◌, ◌<◌, ◌∷◌}
-use Rattle.programs.specs.chunkplan.Common.{ℕ, List, [], AllByRecursion, CountsAlong, IsNumeral}
-use Rattle.programs.specs.declared.chunkplan.product.Count.{Count}
-use Rattle.programs.specs.declared.chunkplan.product.Count.TheVariants as count
+use Rattle.programs.specs.chunkplan.Common.{ℕ, List, [], AllByRecursion, IsNumeral}
 
 abbrev pub AreDigits : List ℕ → Type 0
 AreDigits = AllByRecursion (λ digit. digit < 10)
@@ -19,11 +17,3 @@ value digits = value_with digits 0
 pub data HasText (n : ℕ) (text : List ℕ) : Type 0 where
   no_text : n ≡ 0 → text ≡ [] → HasText n text
   is_text : 0 < n → IsNumeral n text → HasText n text
-
--- what is counted of tasks, along one dimension
-abbrev pub count_along : Count → CountsAlong → ℕ
-count_along count.ChunksRead along = along.chunks_read
-count_along count.ChunksWritten along = along.chunks_written
-count_along count.ElementsDecoded along = along.elements_decoded
-count_along count.LargestTask along = along.largest_task
-count_along count.Tasks along = along.tasks

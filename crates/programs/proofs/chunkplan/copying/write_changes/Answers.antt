@@ -5,7 +5,7 @@ use Rattle.programs.proofs.chunkplan.Common.{sends_nothing}
 use Rattle.zarrs_chunk_plan.specs.declared.resize.plan.ChunkChange.{ChunkChange}
 use Rattle.programs.specs.chunkplan.seen.Opened.{dimensions_in, key_in}
 use Rattle.programs.specs.chunkplan.seen.Steps.{StepLeaves}
-use Rattle.programs.proofs.chunkplan.Begun.{keys_in}
+use Rattle.zarrs_chunk_questions.proofs.PartsAhead.{keys_in}
 use Rattle.programs.proofs.chunkplan.Exits.{handed}
 use Rattle.programs.proofs.chunkplan.Numbered.{IsLineOf, IsTextOf, counted_first, way_ends, way_goes_on, way_memory, way_stops}
 use Rattle.programs.proofs.chunkplan.Steps.{made_text, text_follows}

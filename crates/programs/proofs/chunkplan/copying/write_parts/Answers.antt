@@ -1,7 +1,7 @@
 use Rattle.programs.proofs.chunkplan.Common.{◌≡◌, ◌∙◌, ℕ, suc, List, [], ◌∷◌, ◌++◌, Err, ap, refl, arith, counted, Part, at_first, at_last, one_more}
 use Rattle.programs.proofs.chunkplan.Common.{text_as, Output, written, sends_nothing}
 use Rattle.programs.specs.chunkplan.seen.Opened.{dimensions_in, key_in}
-use Rattle.programs.proofs.chunkplan.Begun.{parts_ahead}
+use Rattle.zarrs_chunk_questions.proofs.PartsAhead.{parts_ahead}
 use Rattle.programs.proofs.chunkplan.Exits.{handed}
 use Rattle.programs.proofs.chunkplan.Numbered.{IsLineOf, way_ends, way_goes_on, way_memory, way_stops}
 use Rattle.programs.proofs.chunkplan.Steps.{made_text, text_follows}

@@ -1,6 +1,6 @@
 use Rattle.programs.proofs.chunkplan.Common.{◌≡◌, ℕ, counted, text_as, written}
 use Rattle.programs.specs.chunkplan.seen.Steps.{HasSent}
-use Rattle.programs.proofs.chunkplan.Begun.{PartsHaveCome}
+use Rattle.zarrs_chunk_questions.proofs.PartsAhead.{PartsHaveCome}
 use Rattle.programs.proofs.chunkplan.Numbered.{Came}
 use Rattle.programs.proofs.chunkplan.copying.write_parts.Given as goal
 

@@ -7,7 +7,7 @@ use Rattle.zarrs_chunks.specs.declared.chunk_grid.named.ChunkGrid.{ChunkGrid}
 use Rattle.programs.specs.chunkplan.Planned.{missing_of, missing_text}
 use Rattle.programs.specs.chunkplan.Stages.{AreStagePlans, plans_in}
 use Rattle.programs.specs.chunkplan.seen.Missing.{HaveNoted, share_unless_stored}
-use Rattle.programs.specs.chunkplan.seen.Opened.{dimensions_of, key_of}
+use Rattle.programs.specs.chunkplan.seen.Opened.{dimensions_in, dimensions_of, key_in, key_of}
 use Rattle.programs.specs.chunkplan.seen.PlannedTasks.{HasPlansOf, PlansToCome}
 use Rattle.programs.specs.chunkplan.seen.Routes.{stage_of}
 use Rattle.programs.specs.declared.chunkplan.route.Stage.{Stage as StageValue}
@@ -18,15 +18,15 @@ use Rattle.programs.proofs.chunkplan.ReadsLast.{may_read, not_read}
 use Rattle.programs.proofs.chunkplan.RunOutcomes.{missing_still, no_read_fault, none_of_reading, none_of_writing, stage_still, still_early}
 use Rattle.programs.proofs.chunkplan.Steps.{text_follows}
 use Rattle.programs.proofs.chunkplan.StoredTasks.{none_noted, still_missing}
-use Rattle.programs.proofs.chunkplan.TasksBegun.{first_task, tasks_ahead}
+use Rattle.zarrs_chunk_tasks.proofs.TasksBegun.{first_task, tasks_ahead}
 use Rattle.programs.proofs.chunkplan.missing.write_missing.Goals as goal
 
 -- a walk over the tasks of a stage has tasks to give
 module _ (stage : StageValue) (walk : Tasks ChunkGrid) (has : HasPlansOf stage walk) where
   some_plans : (plans : List TaskPlan) × AreStagePlans (stage_of stage) plans × PlansToCome stage.source.now stage.target.now walk plans
   some_plans =
-      let (plans, come) = tasks_ahead stage.source.now stage.target.now walk has.have walk []
-      (first_task stage.source.now stage.target.now walk walk refl has.can) in
+      let (plans, come) = tasks_ahead dimensions_in key_in stage.source.now stage.target.now walk has.have walk []
+      (first_task dimensions_in key_in stage.source.now stage.target.now walk walk refl has.can) in
       (plans, has.are plans come, come)
 
   -- the lines of the tasks that aren't done, and behind them those of the foreign keys

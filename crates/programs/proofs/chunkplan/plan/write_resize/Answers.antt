@@ -16,12 +16,12 @@ write_changes-requires-clause-used g c =
 pub write_changes-requires-clause-fit : goal.write_changes-requires-clause-fit
 write_changes-requires-clause-fit g c =
     let about = c.in-Ok.ensures.about in
-    rw about.same_before (rw c.array_shape.ensures at c.fit.ensures)
+    rw about.same_before (rw c.array_shape.ensures at c.all_fit.ensures)
 
 pub write_changes-requires-clause-also_fit : goal.write_changes-requires-clause-also_fit
 write_changes-requires-clause-also_fit g c =
     let about = c.in-Ok.ensures.about in
-    rw about.same_after (rw c.array_shape-2.ensures at c.fit-2.ensures)
+    rw about.same_after (rw c.array_shape-2.ensures at c.all_fit-2.ensures)
 
 pub returns-in-Ok : goal.returns-in-Ok
 returns-in-Ok g c =

@@ -1,5 +1,5 @@
 use Rattle.programs.proofs.chunkplan.Common.{◌∙◌, ◌*◌, ap, value}
-use Rattle.programs.specs.chunkplan.seen.Digits.{count_along}
+use Rattle.zarrs_chunk_tasks.specs.Counts.{count_along}
 use Rattle.programs.proofs.chunkplan.RouteLists.{counts_taken}
 use Rattle.programs.proofs.chunkplan.product.count_text.Goals as goal
 

@@ -1,5 +1,5 @@
 use Rattle.programs.proofs.chunkplan.Common.{◌≡◌, map, take, product, AreDigits, value}
-use Rattle.programs.specs.chunkplan.seen.Digits.{count_along}
+use Rattle.zarrs_chunk_tasks.specs.Counts.{count_along}
 use Rattle.programs.proofs.chunkplan.product.count_text.Given as goal
 
 -- the digits are those of the product of the counts so far

@@ -1,7 +1,7 @@
 use Rattle.programs.proofs.chunkplan.Common.{◌≡◌, ◌∙◌, ◌∷◌, ◌+◌, ◌<◌, ◌≤◌, [], ap, arith, drop, get_or, length, map, map-append, non_zero_u64_get, suc}
 use Rattle.programs.specs.chunkplan.Common.{grid_in}
 use Rattle.std.proofs.lemmas.List.{drop_all}
-use Rattle.zarrs_chunk_plan.specs.Rechunking.{array_box}
+use Rattle.zarrs_chunk_plan.specs.ArrayBoxes.{array_box}
 use Rattle.programs.specs.chunkplan.seen.Opened.{array_in, dimensions_in}
 use Rattle.programs.specs.chunkplan.seen.Routes.{intermediate_of, stage_of}
 use Rattle.programs.proofs.chunkplan.RouteLists.{first_dropped, last_stage, one_more_stage}

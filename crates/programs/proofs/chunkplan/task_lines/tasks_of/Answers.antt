@@ -1,43 +1,25 @@
-use Rattle.programs.proofs.chunkplan.Common.{◌∙◌, sym}
-use Rattle.programs.proofs.chunkplan.StagePlans.{all_plans, have_by_source, have_by_target}
+use Rattle.zarrs_chunk_questions.proofs.PartsAhead.{keys_in}
+use Rattle.zarrs_chunk_tasks.proofs.PlannedTasks.{gives_plans}
+use Rattle.programs.proofs.chunkplan.Common.{chained_in}
+use Rattle.programs.specs.chunkplan.seen.Opened.{dimensions_in, key_in}
 use Rattle.programs.proofs.chunkplan.task_lines.tasks_of.Goals as goal
 
-pub returns-in_ok-tasks-in-Target : goal.returns-in_ok-tasks-in-Target
-returns-in_ok-tasks-in-Target c =
+pub returns : goal.returns
+returns c =
     let stage = c.args.stage.now in
-    let walk = c.in_ok-tasks-in-Target.field-0 in
-    let said = c.in_ok-tasks-in-Target.ensures in
+    let walk = c.in_ok-tasks_by.field-0 in
+    let said = c.in_ok-tasks_by.ensures in
+    let gives = gives_plans dimensions_in key_in stage.source.now stage.target.now walk chained_in keys_in (rw c.array_shape.ensures at c.all_fit.ensures)
+    (rw c.array_shape-2.ensures at c.all_fit-2.ensures) stage.region c.as_slice-at.result.now stage.each.now said.has stage.order said.planned
+    in
     record {
       has = rw c.as_slice-at.ensures.value at said.has;
-      can = said.planned.can;
-      all = said.planned.all ∙ sym said.planned.left;
-      have = have_by_target stage.source.now stage.target.now walk (rw c.array_shape.ensures at c.fit.ensures)
-          (rw c.array_shape-2.ensures at c.fit-2.ensures) stage.region c.as_slice-at.result.now stage.each.now said.has said.planned;
-      are = λ plans come.
-          let (are, have) = all_plans stage.source.now stage.target.now walk _ _ _ _ _ said.planned plans come in
-          record {
-            has = rw c.as_slice-at.ensures.value at said.has;
-            are_tasks = rw c.in-Target.is (rw c.as_slice-at.ensures.value at are);
-            have_parts = have;
-          };
-    }
-
-pub returns-in_ok-tasks_by_source-in-Source : goal.returns-in_ok-tasks_by_source-in-Source
-returns-in_ok-tasks_by_source-in-Source c =
-    let stage = c.args.stage.now in
-    let walk = c.in_ok-tasks_by_source-in-Source.field-0 in
-    let said = c.in_ok-tasks_by_source-in-Source.ensures in
-    record {
-      has = rw c.as_slice-at.ensures.value at said.has;
-      can = said.planned.can;
-      all = said.planned.all ∙ sym said.planned.left;
-      have = have_by_source stage.source.now stage.target.now walk (rw c.array_shape.ensures at c.fit.ensures)
-          (rw c.array_shape-2.ensures at c.fit-2.ensures) stage.region c.as_slice-at.result.now stage.each.now said.has said.planned;
-      are = λ plans come.
-          let (are, have) = all_plans stage.source.now stage.target.now walk _ _ _ _ _ said.planned plans come in
-          record {
-            has = rw c.as_slice-at.ensures.value at said.has;
-            are_tasks = rw c.in-Source.is (rw c.as_slice-at.ensures.value at are);
-            have_parts = have;
-          };
+      can = gives.can;
+      all = gives.all;
+      have = gives.have;
+      are = λ plans come. record {
+        has = rw c.as_slice-at.ensures.value at said.has;
+        are_tasks = rw c.as_slice-at.ensures.value at (gives.are_tasks plans come);
+        have_parts = gives.have_parts plans come;
+      };
     }

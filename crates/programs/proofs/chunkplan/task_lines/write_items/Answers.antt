@@ -4,7 +4,7 @@ use Rattle.std.specs.declared.alloc.Global.{Global}
 use Rattle.programs.specs.chunkplan.seen.Opened.{CanGiveParts, PartsToCome, dimensions_in, key_in}
 use Rattle.programs.specs.chunkplan.seen.Steps.{IsMade}
 use Rattle.programs.specs.declared.chunkplan.line.Form.{Form}
-use Rattle.programs.proofs.chunkplan.Begun.{parts_ahead}
+use Rattle.zarrs_chunk_questions.proofs.PartsAhead.{parts_ahead}
 use Rattle.programs.proofs.chunkplan.Behind.{Begins, Behind, ends_behind, stops_whole}
 use Rattle.programs.proofs.chunkplan.Exits.{handed}
 use Rattle.programs.proofs.chunkplan.Numbered.{IsTextOf, counted_first}

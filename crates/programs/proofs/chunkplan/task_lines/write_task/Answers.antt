@@ -10,7 +10,7 @@ use Rattle.programs.specs.chunkplan.seen.Missing.{is_left_out, line_unless_store
 use Rattle.programs.specs.chunkplan.seen.Opened.{PartsToCome, dimensions_in, dimensions_of, key_in, key_of}
 use Rattle.programs.specs.chunkplan.seen.PlannedTasks.{HasPartsOf}
 use Rattle.programs.specs.chunkplan.seen.Steps.{IsMade}
-use Rattle.programs.proofs.chunkplan.Begun.{parts_ahead}
+use Rattle.zarrs_chunk_questions.proofs.PartsAhead.{its_parts, its_plan}
 use Rattle.programs.proofs.chunkplan.Behind.{Begins, Behind, ends_behind, sent_behind, stops_behind, stops_whole}
 use Rattle.programs.proofs.chunkplan.Exits.{handed}
 use Rattle.programs.proofs.chunkplan.Pieces.{in_task}
@@ -30,22 +30,11 @@ AreItems array b first written text =
 
 module _ (array : StoredArray ChunkGrid ChunkKeyEncoding) (b : Box) (walk : Parts ChunkGrid ChunkKeyEncoding)
     (planned : IsPlanned dimensions_in array.grid array.encoding b walk) where
-  its_plan : (parts : List Part) → PartsToCome walk parts → IsPlan (dimensions_of array) (key_of array) b parts
-  its_plan parts are =
-      plan_of dimensions_in key_in array.grid array.encoding b planned.cover walk parts planned.about planned.is_cover planned.left are
-
-  has_plan : IsBox b → (parts : List Part) × IsPlan (dimensions_of array) (key_of array) b parts
-  has_plan is_box =
-      let (parts, are) = parts_ahead walk (rw planned.about.same_subset is_box) walk []
-      (at_first dimensions_in key_in walk walk [] refl refl (planned_meet dimensions_in array.grid array.encoding b walk planned))
-      in
-      (parts, its_plan parts are)
-
   are_items : (before : Result (Vec ℕ Global) AllocError) (first : List ℕ) (written : Bool) → IfOk before (λ text. text.items ≡ first) → (text : List ℕ)
       → (made : List ℕ) × (parts : List Part) × IsMade before made × PartsToCome walk parts × (text ≡ made ++ items written parts)
       → AreItems array b first written text
   are_items before first written is text (made, parts, of, are, both) =
-      (parts, its_plan parts are, both ∙ rw (made_text (λ text. text ≡ first) before is made of) refl)
+      (parts, its_plan array b walk planned parts are, both ∙ rw (made_text (λ text. text ≡ first) before is made of) refl)
 
 -- ---- the line, as far as it was sent
 
@@ -108,8 +97,8 @@ returns-then-left_out g c =
     let target = c.args.target.now in
     let task = c.args.task.now in
     let stored = option_map (λ s. s.now) c.args.stored in
-    let (from, reads) = has_plan source task.source c.in_ok-from.from (rw c.in_ok-from.ensures at c.parts.ensures.planned) c.is_a_box.ensures in
-    let (into, writes) = has_plan target task.target c.in_ok-into.into (rw c.in_ok-into.ensures at c.parts-2.ensures.planned) c.is_a_box-2.ensures in
+    let (from, reads) = its_parts source task.source c.in_ok-from.from (rw c.in_ok-from.ensures at c.parts.ensures.planned) c.is_a_box.ensures in
+    let (into, writes) = its_parts target task.target c.in_ok-into.into (rw c.in_ok-into.ensures at c.parts-2.ensures.planned) c.is_a_box-2.ensures in
     let plan : TaskPlan = (task, (from, into)) in
     let is : is_left_out stored plan ≡ true = sym (c.in_ok-left_out.ensures plan writes) ∙ c.if-left_out.true in (
       [],
@@ -130,7 +119,7 @@ returns-in_err-write_items g c =
     λ plan writes. sym (c.in_ok-left_out.ensures plan writes) ∙ c.if-left_out.false in
     rw (handed _ _ c.from_residual-in_err-write_items.ensures.1)
     (stops_whole _ _
-    (reads_begin source target task c.args.number c.args.of stored comes (has_plan target task.target c.in_ok-into.into into c.is_a_box-2.ensures)) _ _ _
+    (reads_begin source target task c.args.number c.args.of stored comes (its_parts target task.target c.in_ok-into.into into c.is_a_box-2.ensures)) _ _ _
     (text_follows _ _ (λ _. ⊥) (are_items source task.source c.in_ok-from.from read c.task_begin-begin.result _ false (rw c.shape.ensures.value at c.task_begin-begin.ensures)) _ _
     (Err c.in_err-write_items.field-0.0) c.in_err-write_items.ensures))
 
@@ -148,7 +137,7 @@ returns-in_err-write_items-2 g c =
     (stops_behind (Reads source target task c.args.number c.args.of stored comes) (Writes source target task c.args.number c.args.of stored comes) _ _ _ _
     (text_follows _ _ (λ _. ⊥) (are_items source task.source c.in_ok-from.from read c.task_begin-begin.result _ false (rw c.shape.ensures.value at c.task_begin-begin.ensures)) _ _ (Ok tt)
     c.in_ok-write_items.ensures)
-    (reads_begin source target task c.args.number c.args.of stored comes (has_plan target task.target c.in_ok-into.into into c.is_a_box-2.ensures))
+    (reads_begin source target task c.args.number c.args.of stored comes (its_parts target task.target c.in_ok-into.into into c.is_a_box-2.ensures))
     (both_begin source target task c.args.number c.args.of stored comes) _
     (text_follows _ _ (λ _. ⊥) (are_items target task.target c.in_ok-into.into into c.task_middle-middle.result _ true c.task_middle-middle.ensures) _ _
     (Err c.in_err-write_items-2.field-0.0) c.in_err-write_items-2.ensures))

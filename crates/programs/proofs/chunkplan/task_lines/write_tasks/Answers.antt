@@ -2,12 +2,12 @@ use Rattle.programs.proofs.chunkplan.Common.{◌≡◌, ◌∙◌, ℕ, suc, Lis
 use Rattle.programs.proofs.chunkplan.Common.{sends_nothing, subst, sym, Ok, Some}
 use Rattle.zarrs_chunk_tasks.specs.seen.Tasks.{GivesTask, all_groups}
 use Rattle.programs.specs.chunkplan.seen.Missing.{line_unless_stored}
-use Rattle.programs.specs.chunkplan.seen.Opened.{dimensions_in}
+use Rattle.programs.specs.chunkplan.seen.Opened.{dimensions_in, key_in}
 use Rattle.programs.specs.chunkplan.seen.PlannedTasks.{HasPartsOf}
 use Rattle.programs.proofs.chunkplan.Exits.{handed}
 use Rattle.programs.proofs.chunkplan.Numbered.{IsLineOf, way_ends, way_goes_on, way_memory, way_stops}
 use Rattle.programs.proofs.chunkplan.Steps.{text_follows}
-use Rattle.programs.proofs.chunkplan.TasksBegun.{first_task, last_task, one_more_task, tasks_ahead}
+use Rattle.zarrs_chunk_tasks.proofs.TasksBegun.{first_task, last_task, one_more_task, tasks_ahead}
 use Rattle.programs.proofs.chunkplan.task_lines.write_tasks.Goals as goal
 
 pub loop-task-init : goal.loop-task-init
@@ -18,7 +18,7 @@ loop-task-init g c = λ begin is_first. (
     [],
     (
       [],
-      first_task c.args.source.now c.args.target.now c.args.walk c.into_iter-task-iterator.result c.into_iter-task-iterator.ensures.into_iter_gives c.requires.can,
+      first_task dimensions_in key_in c.args.source.now c.args.target.now c.args.walk c.into_iter-task-iterator.result c.into_iter-task-iterator.ensures.into_iter_gives c.requires.can,
       omega arith,
       refl,
     ),
@@ -41,7 +41,7 @@ loop-task-preserved g c = λ begin is_first.
       c.following-number.ensures n number_is,
       way_goes_on (λ n. line_unless_stored (option_map (λ s. s.now) c.args.stored) (counted n) of) begin _ _ (λ _. ⊥) (λ y. (y.0 ≡ task) × HasPartsOf source target y) n _ _ _ sent
           (λ came y had (is_task, has).
-          one_more_task source target walk c.loop-task.task-iterator c.next.new.self y came had
+          one_more_task dimensions_in key_in source target walk c.loop-task.task-iterator c.next.new.self y came had
           (subst (λ t. GivesTask dimensions_in c.loop-task.task-iterator (Some (Ok t)) c.next.new.self) (sym is_task) gives) has) (
             text,
             (plan, (same, have), is ∙ ap (λ number. line_unless_stored (option_map (λ s. s.now) c.args.stored) number of plan) number_is),
@@ -57,7 +57,7 @@ returns-in_err-task g c = λ begin is_first.
     let (n, number_is, sent) = c.loop-task.invariant begin is_first in
     rw (handed _ _ c.from_residual.ensures.1)
     (way_memory (λ n. line_unless_stored (option_map (λ s. s.now) c.args.stored) (counted n) (counted (length (all_groups c.args.walk)))) begin _ _ n _ _ sent
-    (tasks_ahead c.args.source.now c.args.target.now c.args.walk c.requires.have c.loop-task.task-iterator))
+    (tasks_ahead dimensions_in key_in c.args.source.now c.args.target.now c.args.walk c.requires.have c.loop-task.task-iterator))
 
 pub returns-in_err-write_task : goal.returns-in_err-write_task
 returns-in_err-write_task g c = λ begin is_first.
@@ -72,11 +72,11 @@ returns-in_err-write_task g c = λ begin is_first.
     let of = counted (length (all_groups walk)) in
     let Line : ℕ → TaskPlan → List ℕ = λ n. line_unless_stored (option_map (λ s. s.now) c.args.stored) (counted n) of in
     let IsOne : TaskPlan → Type 0 = λ y. (y.0 ≡ task) × HasPartsOf source target y in
-    let ahead = tasks_ahead source target walk c.requires.have in
+    let ahead = tasks_ahead dimensions_in key_in source target walk c.requires.have in
     rw (handed _ _ c.from_residual-in_err-write_task.ensures.1)
     (way_stops Line begin _ _ _ IsOne n _ _ _ sent
     (λ came y had (is_task, has).
-    one_more_task source target walk c.loop-task.task-iterator c.next.new.self y came had
+    one_more_task dimensions_in key_in source target walk c.loop-task.task-iterator c.next.new.self y came had
     (subst (λ t. GivesTask dimensions_in c.loop-task.task-iterator (Some (Ok t)) c.next.new.self) (sym is_task) gives) has)
     (ahead c.loop-task.task-iterator) (ahead c.next.new.self) _
     (text_follows _ (IsLineOf Line begin IsOne n) (λ _. ⊥)
@@ -91,4 +91,4 @@ pub returns : goal.returns
 returns g c = λ begin is_first.
     let (n, number_is, sent) = c.loop-task.invariant begin is_first in
     way_ends (λ n. line_unless_stored (option_map (λ s. s.now) c.args.stored) (counted n) (counted (length (all_groups c.args.walk)))) begin _ _ n _ _ sent
-    (λ came have. last_task c.args.source.now c.args.target.now c.args.walk c.loop-task.task-iterator c.next.new.self came have c.in-None.ensures.steps)
+    (λ came have. last_task dimensions_in key_in c.args.source.now c.args.target.now c.args.walk c.loop-task.task-iterator c.next.new.self came have c.in-None.ensures.steps)
