@@ -131,6 +131,13 @@ module _ (copying : Copying) (walk gone : Tasks ChunkGrid) (first most count in_
       rw (about.same_grid, about.same_each, about.same_elements, about.same_first, about.same_at, left)
       (all_behind (λ group. (plan : TaskPlan) × IsOne group plan) first groups gives.have)
 
+  plans_have_parts : (some : List (List ℕ)) (plans : List TaskPlan) → AllZip IsOne some plans
+      → AllByRecursion (HasPartsBetween copying.source copying.target) plans
+  plans_have_parts [] [] all = tt
+  plans_have_parts (group ∷ some) (plan ∷ plans) all = (all.0.1, plans_have_parts some plans all.1)
+  plans_have_parts [] (_ ∷ _) all = absurd all
+  plans_have_parts (_ ∷ _) [] all = absurd all
+
   module _ (plans : List TaskPlan)
       (are : AllZip (IsPlanOf copying.source copying.target gone) (take count (groups_to_come gone)) plans) where
     abbrev only : List TaskPlan → List Task
@@ -157,15 +164,9 @@ module _ (copying : Copying) (walk gone : Tasks ChunkGrid) (first most count in_
           plans = plans;
           are_some = sym (ap (λ n. take n (drop first (only all))) which ∙ ap (take count) (drop_mapped (λ (plan : TaskPlan). plan.0) first all)
               ∙ take-map (λ (plan : TaskPlan). plan.0) count (drop first all) ∙ ap only same);
-          have_parts = have_parts (take count (drop first groups)) plans zipped;
+          have_parts = plans_have_parts (take count (drop first groups)) plans zipped;
           tree = is ∙ ap (λ n. page_tree (map task_tree plans) (is_more first (length plans) n)) (sym as_many);
-        } where
-          have_parts : (some : List (List ℕ)) (its : List TaskPlan) → AllZip IsOne some its
-              → AllByRecursion (HasPartsBetween copying.source copying.target) its
-          have_parts [] [] all = tt
-          have_parts (group ∷ some) (plan ∷ its) all = (all.0.1, have_parts some its all.1)
-          have_parts [] (_ ∷ _) all = absurd all
-          have_parts (_ ∷ _) [] all = absurd all
+        }
 
     -- where they have too many parts, the page is as long
     pub long_tasks_page : (too_many : ℕ) → too_many ≤ parts_in plans
@@ -173,5 +174,5 @@ module _ (copying : Copying) (walk gone : Tasks ChunkGrid) (first most count in_
         × (too_many * part_least (source_dimensions (copy_of copying)) ≤ text_long t)
     long_tasks_page too_many many =
         let t = page_tree (map task_tree plans) (is_more first (length plans) in_all) in
-        let page = tasks_page t refl in
-        (t, page, long_tasks (copy_of copying) has too_many plans (is_more first (length plans) in_all) page.have_parts many)
+        let have_parts = plans_have_parts (take count (drop first groups)) plans zipped in
+        (t, tasks_page t refl, long_tasks (copy_of copying) has too_many plans (is_more first (length plans) in_all) have_parts many)

@@ -81,13 +81,16 @@ whole_if true part = member (codes "whole") (boolean part.whole) no_members
 whole_if false part = no_members
 
 -- what a chunk and the buffer of a task share: the chunk, the box in the buffer, the box in the chunk, and the chunk's key and shape
-abbrev pub overlap_tree : (written : Bool) → Part → Data
-overlap_tree written part =
-    object (member (codes "chunk") (numbers_tree part.chunk.items)
+abbrev pub overlap_members : Part → (more : Members) → Members
+overlap_members part more =
+    member (codes "chunk") (numbers_tree part.chunk.items)
     (member (codes "in_buffer") (box_tree part.in_subset)
     (member (codes "in_chunk") (box_tree part.in_chunk)
     (member (codes "key") (string part.key)
-    (member (codes "shape") (numbers_tree part.shape.items) (whole_if written part))))))
+    (member (codes "shape") (numbers_tree part.shape.items) more))))
+
+abbrev pub overlap_tree : (written : Bool) → Part → Data
+overlap_tree written part = object (overlap_members part (whole_if written part))
 
 -- a task: the shape of its buffer, what is read into it, and what is written from it
 abbrev pub task_tree : TaskPlan → Data

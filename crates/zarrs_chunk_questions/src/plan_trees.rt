@@ -1,8 +1,9 @@
 //! The trees that the parts of a plan and of tasks are written as.
-ghost use Rattle.std.specs.Prelude.{◌≡◌, IfOk, map};
-ghost use Rattle.serde_json.specs.View.{view};
+ghost use Rattle.std.specs.Prelude.{◌≡◌, false, IfOk, map, true};
+ghost use Rattle.serde_json.specs.Data.{no_members};
+ghost use Rattle.serde_json.specs.View.{members_view, view};
 ghost use Rattle.zarrs_chunk_questions.specs.Pages.{part_tree as tree_of_part};
-ghost use Rattle.zarrs_chunk_questions.specs.Tasks.{overlap_tree as tree_of_overlap, task_tree as tree_of_task};
+ghost use Rattle.zarrs_chunk_questions.specs.Tasks.{overlap_members as members_of_overlap, overlap_tree as tree_of_overlap, task_tree as tree_of_task};
 
 use serde_json::{Map, Value};
 use std::alloc::{AllocError, Global};
@@ -26,10 +27,9 @@ pub(crate) fn part_tree(alloc: Global, part: &Part) -> Result<Value, AllocError>
     Ok(Value::Object(members))
 }
 
-/// The tree of what a chunk and the buffer of a task share:
-/// `{"chunk":[..],"in_buffer":[start,shape],"in_chunk":[start,shape],"key":"..","shape":[..]}`, and `whole` of what is written.
-fn overlap_tree(alloc: Global, part: &Part, written: bool) -> Result<Value, AllocError>
-    ensures { IfOk result (λ tree. view tree ≡ tree_of_overlap written part.now) }
+/// What a chunk and the buffer of a task share: `{"chunk":[..],"in_buffer":[start,shape],"in_chunk":[start,shape],"key":"..","shape":[..]}`.
+fn overlap_members(alloc: Global, part: &Part) -> Result<Map, AllocError>
+    ensures { IfOk result (λ members. members_view members.entries ≡ members_of_overlap part.now no_members) }
 {
     let chunk = write_list(alloc, part.chunk.as_slice())?;
     let in_buffer = write_box(alloc, &part.in_subset)?;
@@ -42,10 +42,35 @@ fn overlap_tree(alloc: Global, part: &Part, written: bool) -> Result<Value, Allo
     serde_json::put(&mut members, alloc, "in_chunk", in_chunk)?;
     serde_json::put(&mut members, alloc, "key", key)?;
     serde_json::put(&mut members, alloc, "shape", shape)?;
-    if written {
-        serde_json::put(&mut members, alloc, "whole", Value::from(part.whole))?;
-    }
+    Ok(members)
+}
+
+/// The tree of what a task reads of a chunk.
+fn read_tree(alloc: Global, part: &Part) -> Result<Value, AllocError>
+    ensures { IfOk result (λ tree. view tree ≡ tree_of_overlap false part.now) }
+{
+    let members = overlap_members(alloc, part)?;
     Ok(Value::Object(members))
+}
+
+/// The tree of what a task writes of a chunk: `whole` too.
+fn written_tree(alloc: Global, part: &Part) -> Result<Value, AllocError>
+    ensures { IfOk result (λ tree. view tree ≡ tree_of_overlap true part.now) }
+{
+    let mut members = overlap_members(alloc, part)?;
+    serde_json::put(&mut members, alloc, "whole", Value::from(part.whole))?;
+    Ok(Value::Object(members))
+}
+
+/// The tree of what a task reads of a chunk, or of what it writes.
+fn overlap_tree(alloc: Global, part: &Part, written: bool) -> Result<Value, AllocError>
+    ensures { IfOk result (λ tree. view tree ≡ tree_of_overlap written part.now) }
+{
+    if written {
+        written_tree(alloc, part)
+    } else {
+        read_tree(alloc, part)
+    }
 }
 
 /// The trees of what a task reads, or of what it writes.
