@@ -73,8 +73,6 @@ pub enum Error {
         /// The number of the first such box of the call, counted from 0.
         which: usize,
     },
-    /// The grid of a rechunking's target is that of an array with another shape.
-    OtherShape,
     /// Offsets descend, or lie past the text.
     WrongOffsets {
         /// The number of the first key of which they do, counted from 0.
@@ -156,9 +154,6 @@ impl fmt::Display for Error {
             }
             Error::NotABox { which } => {
                 write!(formatter, "box {which} ends past 18446744073709551615")
-            }
-            Error::OtherShape => {
-                write!(formatter, "the source and the target have different array shapes")
             }
             Error::WrongOffsets { which } => {
                 write!(formatter, "the offsets of key {which} descend, or lie past the text")

@@ -4,8 +4,6 @@ use std::fmt;
 
 use crate::calls;
 use crate::changes::ChangedChunks;
-use crate::copies::Copies;
-use crate::counts::Counts;
 use crate::encoding::Encoding;
 use crate::error::{Error, Result};
 use crate::ffi;
@@ -15,6 +13,8 @@ use crate::parts::Parts;
 use crate::questions::{self, Member};
 use crate::reader::Reader;
 use crate::subset::ArraySubset;
+use crate::task_counts::TaskCounts;
+use crate::tasks::{TaskOptions, Tasks};
 use crate::walks::{ChunkIndices, ChunkIndicesAndSubsets, ChunkSubsets};
 
 /// A chunk grid: the chunks into which an array of a shape is cut.
@@ -23,7 +23,7 @@ use crate::walks::{ChunkIndices, ChunkIndicesAndSubsets, ChunkSubsets};
 /// dimension. All numbers go from 0 to 18446744073709551615, and no sum or product wraps.
 ///
 /// A grid prepares itself once, as numbers: so no call reads JSON, but for each page of a plan, of
-/// copies or of a walk, and for [questions](Grid#questions). It never changes, and any number
+/// tasks or of a walk, and for [questions](Grid#questions). It never changes, and any number
 /// of threads may ask it at once. Two are equal that were made of the same shape and the same text.
 ///
 /// # Batches
@@ -742,70 +742,34 @@ impl Grid {
         Parts::new(self, encoding, subset)
     }
 
-    /// The rechunking of an array: what is copied into each chunk of the target that holds elements
-    /// of the array, in row-major order of these chunks. This grid and the first encoding are those
-    /// by which the array is stored, the other two those by which it is to be stored.
-    /// [`within`](Copies::within) leaves those chunks of the target that lie in a box.
+    /// Returns the tasks that copy this array, or a region of it, to the array of `target`. A task
+    /// fills a buffer from chunks of this array, and writes it to chunks of the target's array.
+    /// Tasks come in row-major order of the chunks that they take.
     ///
-    /// The rechunking is read page by page, so it takes little memory, however long it is.
+    /// By default the whole array is copied to the first index of the target's array, and each task
+    /// writes one chunk. If both arrays have one shape, this is a rechunking. [`TaskOptions`] say
+    /// which region is copied, and which chunks a task takes. The target may be this array, or have
+    /// another shape. This array has `encoding`, and the target's array has `target_encoding`.
     ///
-    /// # Errors
-    ///
-    /// [`Error::OtherShape`] where the target is a grid of an array of another shape;
-    /// [`Error::OutOfMemory`]; [`Error::Refused`] where the texts nest too deep for
-    /// [a question](Grid#questions), in which those of the target stand one deeper than the others.
-    ///
-    /// # Example
-    ///
-    /// ```
-    /// use zarrs_chunks::{Encoding, Grid};
-    ///
-    /// let three = r#"{"name":"regular","configuration":{"chunk_shape":[3]}}"#;
-    /// let two = r#"{"name":"regular","configuration":{"chunk_shape":[2]}}"#;
-    /// let (grid, target) = (Grid::new(&[4], three)?, Grid::new(&[4], two)?);
-    /// let encodings = [Encoding::new(r#""default""#)?, Encoding::new(r#""v2""#)?];
-    /// let mut lines = Vec::new();
-    /// for copies in grid.copies(&encodings[0], &target, &encodings[1])? {
-    ///     let copies = copies?;
-    ///     for source in &copies.sources {
-    ///         // The elements `source.in_chunk` of the chunk under `source.key` go to the places
-    ///         // `source.in_target` of the one under `copies.key`.
-    ///         lines.push(format!("{} from {}", copies.key, source.key));
-    ///     }
-    /// }
-    /// assert_eq!(lines, ["0 from c/0", "1 from c/0", "1 from c/1"]);
-    /// # Ok::<(), zarrs_chunks::Error>(())
-    /// ```
-    pub fn copies<'a>(
-        &'a self,
-        encoding: &'a Encoding,
-        target: &'a Grid,
-        target_encoding: &'a Encoding,
-    ) -> Result<Copies<'a>> {
-        Copies::of_array((self, encoding), (target, target_encoding))
-    }
-
-    /// What is copied of a region: `subset`, a box of this array's elements, goes to the array of
-    /// the target, which may have another shape, or be this array. It begins there at the index
-    /// `at`, and isn't clipped. An item for each chunk of the target that takes some of it, in
-    /// row-major order of these chunks; an empty box has none. This grid and the first encoding are
-    /// those by which the array is stored, the other two those of the target's array.
-    /// [`within`](Copies::within) leaves those chunks of the target that lie in a box.
-    ///
-    /// It is read page by page, so it takes little memory, however long it is.
+    /// Tasks are read page by page, so they take little memory, however many they are.
     ///
     /// # Errors
     ///
-    /// [`Error::Refused`] where the target, the box or the index has another number of dimensions
-    /// than the grid, where the box doesn't lie in this array, or where the target's array has no
-    /// room for it at the index; and where the texts nest too deep for
-    /// [a question](Grid#questions), in which those of the target stand one deeper than the others.
+    /// [`Error::Refused`] if
+    ///
+    /// - the target's array, the region, `at` or `task_chunks` has another number of dimensions
+    ///   than this grid;
+    /// - a number of `task_chunks` is 0;
+    /// - the region doesn't lie in both arrays;
+    /// - the texts nest too deep for [a question](Grid#questions), in which the target's texts
+    ///   stand one deeper than the others.
+    ///
     /// [`Error::OutOfMemory`].
     ///
     /// # Example
     ///
     /// ```
-    /// use zarrs_chunks::{ArraySubset, Encoding, Grid};
+    /// use zarrs_chunks::{ArraySubset, Encoding, Grid, TaskOptions};
     ///
     /// let three = r#"{"name":"regular","configuration":{"chunk_shape":[3]}}"#;
     /// let five = r#"{"name":"regular","configuration":{"chunk_shape":[5]}}"#;
@@ -813,106 +777,71 @@ impl Grid {
     /// let encodings = [Encoding::new(r#""default""#)?, Encoding::new(r#""v2""#)?];
     /// // The elements 1 to 6 go to the places 4 to 9.
     /// let subset = ArraySubset::new_with_ranges(&[1..7])?;
+    /// let options = TaskOptions { subset: Some(&subset), at: Some(&[4]), ..Default::default() };
     /// let mut lines = Vec::new();
-    /// for copies in grid.copies_of_region(&encodings[0], &target, &encodings[1], &subset, &[4])? {
-    ///     let copies = copies?;
-    ///     // Of the first chunk one element is written, and the others have to stay as they are.
-    ///     let how = if copies.whole { "written" } else { "read and written" };
-    ///     for source in &copies.sources {
-    ///         lines.push(format!("{} is {how} from {}", copies.key, source.key));
+    /// for task in grid.tasks(&encodings[0], &target, &encodings[1], options)? {
+    ///     let task = task?;
+    ///     for source in &task.sources {
+    ///         // The elements `source.in_chunk` of the chunk go to the places `source.in_buffer`.
+    ///         lines.push(format!("read {}", source.key));
+    ///     }
+    ///     for target in &task.targets {
+    ///         // The elements `target.in_buffer` go to the places `target.in_chunk` of the chunk.
+    ///         let how = if target.whole { "write" } else { "update" };
+    ///         lines.push(format!("{how} {}", target.key));
     ///     }
     /// }
-    /// assert_eq!(lines[..2], ["0 is read and written from c/0", "1 is written from c/0"]);
-    /// assert_eq!(lines[2..], ["1 is written from c/1", "1 is written from c/2"]);
+    /// assert_eq!(lines[..2], ["read c/0", "update 0"]);
+    /// assert_eq!(lines[2..], ["read c/0", "read c/1", "read c/2", "write 1"]);
     /// # Ok::<(), zarrs_chunks::Error>(())
     /// ```
-    pub fn copies_of_region<'a>(
+    pub fn tasks<'a>(
         &'a self,
         encoding: &'a Encoding,
         target: &'a Grid,
         target_encoding: &'a Encoding,
-        subset: &ArraySubset,
-        at: &[u64],
-    ) -> Result<Copies<'a>> {
-        Copies::of_region((self, encoding), (target, target_encoding), subset, at)
+        options: TaskOptions<'a>,
+    ) -> Result<Tasks<'a>> {
+        Tasks::new((self, encoding), (target, target_encoding), options)
     }
 
-    /// How much the rechunking to another grid of the same array copies, of which [`copies`] is the
-    /// walk, and where a share of it lies. It isn't walked over: at most the chunks of the target
-    /// are gone through, along each dimension by itself, so it takes seconds where they are some
-    /// millions along one. Where there is a box of `chunks`, nothing is copied into other chunks of
-    /// the target; it may reach past the target's grid.
+    /// Returns how much the [`tasks`](Grid::tasks) of a copy read and write, without a walk over
+    /// them, and which tasks are in a share. The time grows with the chunks along each dimension by
+    /// itself, but not along a dimension that is regular in both arrays. It is
+    /// [a question](Grid#questions).
     ///
-    /// A `share` is its number, counted from 0, and how many shares there are; `(0, 1)` is the
-    /// whole. The shares, one behind another, are the whole rechunking, and have as many chunks
-    /// each as any other, or one more. The counts are those of the whole, whichever share it is. It
-    /// is [a question](Grid#questions).
-    ///
-    /// [`copies`]: Grid::copies
+    /// A `share` is its number, counted from 0, and how many shares there are: `(0, 1)` is all
+    /// tasks. The shares, one after another, are all tasks. Each has as many tasks as any other,
+    /// or one more. The counts are of all tasks, whichever share is asked for.
     ///
     /// # Errors
     ///
-    /// [`Error::OtherShape`] where the target is a grid of an array of another shape;
-    /// [`Error::WrongLength`] where the box has another number of dimensions; [`Error::Refused`]
-    /// where the number of the share isn't below how many there are, or where the texts nest too
-    /// deep for a question, in which that of the target stands one deeper than the other;
-    /// [`Error::OutOfMemory`].
+    /// The errors of [`tasks`](Grid::tasks). [`Error::Refused`] also if
+    ///
+    /// - the number of the share isn't below how many shares there are;
+    /// - more than 1048576 chunks of either array hold some of the region along a dimension, unless
+    ///   both grids are regular along each dimension.
     ///
     /// # Example
     ///
     /// ```
-    /// use zarrs_chunks::Grid;
+    /// use zarrs_chunks::{Grid, TaskOptions};
     ///
     /// let three = r#"{"name":"regular","configuration":{"chunk_shape":[3]}}"#;
     /// let two = r#"{"name":"regular","configuration":{"chunk_shape":[2]}}"#;
     /// let (grid, target) = (Grid::new(&[4], three)?, Grid::new(&[4], two)?);
-    /// let counts = grid.counts(&target, None, (1, 2))?;
-    /// assert_eq!((counts.copies(), counts.lines()), (Some(3), Some(2)));
+    /// let counts = grid.task_counts(&target, TaskOptions::default(), (1, 2))?;
+    /// assert_eq!((counts.chunks_read(), counts.tasks()), (Some(3), Some(2)));
     /// assert_eq!(counts.share(), Some(1..2));
     /// # Ok::<(), zarrs_chunks::Error>(())
     /// ```
-    pub fn counts(
+    pub fn task_counts(
         &self,
         target: &Grid,
-        chunks: Option<&ArraySubset>,
+        options: TaskOptions<'_>,
         share: (u64, u64),
-    ) -> Result<Counts> {
-        Counts::of_array(self, target, chunks, share)
-    }
-
-    /// How much is copied of a region, of which [`copies_of_region`] is the walk, and where a share
-    /// of it lies. What is said of time and of shares at [`counts`](Grid::counts) holds here too.
-    /// Where nothing is copied, the products are 0. It is [a question](Grid#questions).
-    ///
-    /// [`copies_of_region`]: Grid::copies_of_region
-    ///
-    /// # Errors
-    ///
-    /// Those of [`copies_of_region`]; and [`Error::Refused`] where the number of the share isn't
-    /// below how many there are.
-    ///
-    /// # Example
-    ///
-    /// ```
-    /// use zarrs_chunks::{ArraySubset, Grid};
-    ///
-    /// let three = r#"{"name":"regular","configuration":{"chunk_shape":[3]}}"#;
-    /// let five = r#"{"name":"regular","configuration":{"chunk_shape":[5]}}"#;
-    /// let (grid, target) = (Grid::new(&[7], three)?, Grid::new(&[12], five)?);
-    /// let subset = ArraySubset::new_with_ranges(&[1..7])?;
-    /// let counts = grid.counts_of_region(&target, &subset, &[4], (1, 2))?;
-    /// assert_eq!((counts.copies(), counts.elements()), (Some(4), Some(6)));
-    /// assert_eq!((counts.lines(), counts.share()), (Some(2), Some(1..2)));
-    /// # Ok::<(), zarrs_chunks::Error>(())
-    /// ```
-    pub fn counts_of_region(
-        &self,
-        target: &Grid,
-        subset: &ArraySubset,
-        at: &[u64],
-        share: (u64, u64),
-    ) -> Result<Counts> {
-        Counts::of_region(self, target, subset, at, share)
+    ) -> Result<TaskCounts> {
+        TaskCounts::new(self, target, options, share)
     }
 
     /// Returns what becomes of the chunks if the array gets another shape, in elements, under the

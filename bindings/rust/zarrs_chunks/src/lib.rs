@@ -37,12 +37,11 @@
 //!
 //! [`Grid`] answers for elements, chunks and boxes of them, and [`Encoding`] for keys: of one list
 //! by methods with the names that zarrs has, of many lists at once in batches, which write into
-//! slices of the caller's. [`Grid::parts`] is the plan of reading a box, [`Grid::copies`] the
-//! rechunking of an array, [`Grid::copies_of_region`] the copy of a box to another array, and the
-//! three `iter_` methods walk over all chunks; they read page by page. [`Grid::counts`] and
-//! [`Grid::counts_of_region`] tell how much is copied, and where a share of it lies;
-//! [`Grid::changed_chunks`] which chunks another shape of the array changes; [`byte_ranges`] which
-//! bytes of an uncompressed chunk hold a part.
+//! slices of the caller's. [`Grid::parts`] is the plan of reading a box, [`Grid::tasks`] the tasks
+//! that rechunk an array or copy a region of it to another array, and the three `iter_` methods
+//! walk over all chunks; they read page by page. [`Grid::task_counts`] says how much tasks read and
+//! write, and which tasks are in a share; [`Grid::changed_chunks`] which chunks another shape of
+//! the array changes; [`byte_ranges`] which bytes of an uncompressed chunk hold a part.
 //! [`answer`] takes any question of the library as text. Some methods ask so themselves, and
 //! [say so](Grid#questions).
 //!
@@ -82,8 +81,6 @@ mod bytes;
 #[allow(unsafe_code)]
 mod calls;
 mod changes;
-mod copies;
-mod counts;
 mod encoding;
 mod error;
 mod ffi;
@@ -95,15 +92,14 @@ mod pages;
 mod parts;
 mod questions;
 mod reader;
-mod region;
 mod subset;
+mod task_counts;
+mod tasks;
 mod walks;
 
 pub use answers::answer;
 pub use bytes::{byte_ranges, ByteRanges, MemoryOrder, Ranges};
 pub use changes::ChangedChunks;
-pub use copies::{ChunkCopies, Copies, Source};
-pub use counts::Counts;
 pub use encoding::Encoding;
 pub use error::{Error, Result};
 pub use grid::{Counted, Grid, Home, Located};
@@ -111,4 +107,6 @@ pub use keys::Keys;
 pub use library::{abi_version, version, ABI_VERSION, STACK};
 pub use parts::{Part, Parts};
 pub use subset::ArraySubset;
+pub use task_counts::TaskCounts;
+pub use tasks::{Destination, Source, Task, TaskOptions, TaskOrder, Tasks};
 pub use walks::{ChunkIndices, ChunkIndicesAndSubsets, ChunkSubsets};

@@ -1,7 +1,6 @@
 //! Questions about grids as text, for what the library has no call of its own.
 
 use crate::answers;
-use crate::encoding::Encoding;
 use crate::error::{Error, Result};
 use crate::grid::Grid;
 use crate::memory::{text_of, Text};
@@ -11,14 +10,15 @@ use crate::subset::ArraySubset;
 /// What a member of a question holds.
 #[derive(Clone, Copy)]
 pub(crate) enum Member<'a> {
+    /// The member is left out.
+    Absent,
     Number(u64),
     List(&'a [u64]),
     Box(&'a ArraySubset),
-    Encoding(&'a Encoding),
-    /// A grid and an encoding, by which an array is stored.
-    Stored(&'a Grid, &'a Encoding),
-    /// The same, with the array's shape.
-    Array(&'a Grid, &'a Encoding),
+    /// A text that is JSON.
+    Json(&'a str),
+    /// An array: its grid, and the text of its encoding.
+    Array(&'a Grid, &'a str),
 }
 
 /// What is read of the answer to a question about a grid. A call without an answer is told by the
@@ -64,12 +64,13 @@ fn answered(line: String) -> Result<String> {
 
 fn question(grid: &Grid, call: &str, members: &[(&str, Member<'_>)]) -> Result<Text> {
     let mut text = Text::default();
-    text.add(format_args!("{{\"call\":\"{call}\",\"shape\":"))?;
-    text.add_list(grid.array_shape())?;
-    text.add(format_args!(",\"chunk_grid\":{}", grid.chunk_grid()))?;
+    text.add(format_args!("{{\"call\":\"{call}\","))?;
+    add_grid(&mut text, grid)?;
     for (name, member) in members {
-        text.add(format_args!(",\"{name}\":"))?;
-        add_member(&mut text, *member)?;
+        if !matches!(member, Member::Absent) {
+            text.add(format_args!(",\"{name}\":"))?;
+            add_member(&mut text, *member)?;
+        }
     }
     text.add(format_args!("}}"))?;
     Ok(text)
@@ -77,6 +78,7 @@ fn question(grid: &Grid, call: &str, members: &[(&str, Member<'_>)]) -> Result<T
 
 fn add_member(text: &mut Text, member: Member<'_>) -> Result<()> {
     match member {
+        Member::Absent => Ok(()),
         Member::Number(number) => text.add(format_args!("{number}")),
         Member::List(numbers) => text.add_list(numbers),
         Member::Box(subset) => {
@@ -86,30 +88,25 @@ fn add_member(text: &mut Text, member: Member<'_>) -> Result<()> {
             text.add_list(subset.shape())?;
             text.add(format_args!("]"))
         }
-        Member::Encoding(encoding) => text.add(format_args!("{}", encoding.chunk_key_encoding())),
-        Member::Stored(grid, encoding) => {
-            text.add(format_args!("{{"))?;
-            add_stored(text, grid, encoding)
-        }
+        Member::Json(json) => text.add(format_args!("{json}")),
         Member::Array(grid, encoding) => {
-            text.add(format_args!("{{\"shape\":"))?;
-            text.add_list(grid.array_shape())?;
-            text.add(format_args!(","))?;
-            add_stored(text, grid, encoding)
+            text.add(format_args!("{{"))?;
+            add_grid(text, grid)?;
+            text.add(format_args!(",\"chunk_key_encoding\":{encoding}}}"))
         }
     }
 }
 
-/// The members that say how an array is stored, and the end of the object.
-fn add_stored(text: &mut Text, grid: &Grid, encoding: &Encoding) -> Result<()> {
-    let (chunk_grid, encoding) = (grid.chunk_grid(), encoding.chunk_key_encoding());
-    text.add(format_args!("\"chunk_grid\":{chunk_grid},\"chunk_key_encoding\":{encoding}}}"))
+/// The members that say a grid.
+fn add_grid(text: &mut Text, grid: &Grid) -> Result<()> {
+    text.add(format_args!("\"shape\":"))?;
+    text.add_list(grid.array_shape())?;
+    text.add(format_args!(",\"chunk_grid\":{}", grid.chunk_grid()))
 }
 
 #[cfg(test)]
 mod tests {
     use super::{ask, line, question, Member};
-    use crate::encoding::Encoding;
     use crate::error::{Error, Result};
     use crate::grid::Grid;
     use crate::reader::Reader;
@@ -119,23 +116,21 @@ mod tests {
 
     #[test]
     fn a_question_is_an_object() -> Result<()> {
-        let (grid, encoding) = (Grid::new(&[5, 7], REGULAR)?, Encoding::new(" \"v2\"\n")?);
+        let (grid, encoding) = (Grid::new(&[5, 7], REGULAR)?, " \"v2\"\n");
         let subset = ArraySubset::new_with_ranges(&[1..2, 3..7])?;
         let members = [
             ("number", Member::Number(u64::MAX)),
             ("list", Member::List(&[])),
+            ("absent", Member::Absent),
             ("box", Member::Box(&subset)),
-            ("encoding", Member::Encoding(&encoding)),
-            ("stored", Member::Stored(&grid, &encoding)),
-            ("array", Member::Array(&grid, &encoding)),
+            ("encoding", Member::Json(encoding)),
+            ("array", Member::Array(&grid, encoding)),
         ];
         let expected = [
             r#"{"call":"any","shape":[5,7],"chunk_grid":"#,
             REGULAR,
             r#","number":18446744073709551615,"list":[],"box":[[1,3],[1,4]],"encoding": "v2""#,
-            "\n,\"stored\":{\"chunk_grid\":",
-            REGULAR,
-            ",\"chunk_key_encoding\": \"v2\"\n},\"array\":{\"shape\":[5,7],\"chunk_grid\":",
+            "\n,\"array\":{\"shape\":[5,7],\"chunk_grid\":",
             REGULAR,
             ",\"chunk_key_encoding\": \"v2\"\n}}",
         ];

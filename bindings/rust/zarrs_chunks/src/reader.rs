@@ -91,12 +91,23 @@ impl Reader<'_> {
 
     /// A list with a number for each dimension.
     pub(crate) fn list(&mut self) -> Result<Vec<u64>> {
-        let mut numbers = Vec::new();
-        self.list_onto(&mut numbers)?;
-        Ok(numbers)
+        self.list_of(Reader::number)
     }
 
-    /// The same, whose numbers are put behind others.
+    /// A list with an item for each dimension.
+    pub(crate) fn list_of<T>(
+        &mut self,
+        mut item: impl FnMut(&mut Self) -> Result<T>,
+    ) -> Result<Vec<T>> {
+        let mut items = Vec::new();
+        let count = self.each(|reader| push(&mut items, item(reader)?))?;
+        if count != self.dimensionality {
+            return Err(no_answer());
+        }
+        Ok(items)
+    }
+
+    /// A list with a number for each dimension. Its numbers are put behind others.
     pub(crate) fn list_onto(&mut self, numbers: &mut Vec<u64>) -> Result<()> {
         let count = self.each(|reader| push(numbers, reader.number()?))?;
         if count != self.dimensionality {

@@ -90,26 +90,9 @@ impl ArraySubset {
         ArraySubset::of_answer(copy_of(start)?, copy_of(shape)?)
     }
 
-    /// The box of all elements of an array.
-    pub(crate) fn of_array(shape: &[u64]) -> Result<ArraySubset> {
-        Ok(ArraySubset { start: zeros(shape.len())?, shape: copy_of(shape)? })
-    }
-
     /// The start and the shape.
     pub(crate) fn into_lists(self) -> (Vec<u64>, Vec<u64>) {
         (self.start, self.shape)
-    }
-
-    /// What the box has in common with another one, which has as many dimensions.
-    pub(crate) fn common(&self, other: &ArraySubset) -> Result<ArraySubset> {
-        let mut common = ArraySubset { start: copy_of(&self.start)?, shape: copy_of(&self.shape)? };
-        let sides = common.start.iter_mut().zip(&mut common.shape);
-        for ((start, size), range) in sides.zip(other.ranges()) {
-            let end = range.end.min(*start + *size);
-            *start = range.start.max(*start);
-            *size = end.saturating_sub(*start);
-        }
-        Ok(common)
     }
 
     /// The number of dimensions.

@@ -7,18 +7,15 @@ use std::collections::HashSet;
 use std::thread;
 
 use common::GREATEST;
-use common::{default_key, great_models, json, small_models, wide_model, Axis, Model, Numbers};
+use common::{
+    default_key, great_models, grid_of, json, small_models, wide_model, Axis, Model, Numbers,
+};
 use zarrs_chunks::{
-    abi_version, answer, ArraySubset, ChunkCopies, ChunkIndices, ChunkIndicesAndSubsets,
-    ChunkSubsets, Copies, Counted, Encoding, Error, Grid, Home, Keys, Located, Part, Parts, Source,
-    ABI_VERSION, STACK,
+    abi_version, answer, ArraySubset, ChunkIndices, ChunkIndicesAndSubsets, ChunkSubsets, Counted,
+    Encoding, Error, Grid, Home, Keys, Located, Part, Parts, Task, Tasks, ABI_VERSION, STACK,
 };
 
 const LEFT: u64 = 7; // what slices hold before a call
-
-fn grid_of(model: &Model) -> Grid {
-    Grid::new(&model.shape, &model.chunk_grid()).unwrap()
-}
 
 fn encoding_of(name: &str) -> Encoding {
     Encoding::new(&format!("\"{name}\"")).unwrap()
@@ -646,13 +643,12 @@ fn all_types_may_be_sent_and_shared() {
     may::<Home>();
     may::<Located>();
     may::<Counted>();
-    may::<ChunkCopies>();
-    may::<Source>();
+    may::<Task>();
     may::<Keys>();
     may::<Part>();
     may::<Error>();
     may::<Parts<'_>>();
-    may::<Copies<'_>>();
+    may::<Tasks<'_>>();
     may::<ChunkIndices<'_>>();
     may::<ChunkSubsets<'_>>();
     may::<ChunkIndicesAndSubsets<'_>>();

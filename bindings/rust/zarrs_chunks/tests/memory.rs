@@ -10,7 +10,7 @@ use std::cell::Cell;
 use std::ffi::c_void;
 use std::ptr;
 
-use zarrs_chunks::{answer, ArraySubset, Encoding, Error, Grid};
+use zarrs_chunks::{answer, ArraySubset, Encoding, Error, Grid, TaskOptions, TaskOrder};
 
 extern "C" {
     fn __libc_malloc(size: usize) -> *mut c_void;
@@ -193,23 +193,23 @@ fn walks_and_plans_are_gone_through_or_not() {
     let by_fours = r#"{"name":"regular","configuration":{"chunk_shape":[4,4]}}"#;
     let (grid, target) = (Grid::new(&[5, 37], REGULAR), Grid::new(&[5, 37], by_fours));
     let (grid, target) = (grid.unwrap(), target.unwrap());
-    let copies = || grid.copies(&encoding, &target, &encoding);
-    assert_eq!(without_each(|| count(copies()?)), Ok(2 * 10));
-    let chunks = ArraySubset::new_with_ranges(&[1..9, 2..22]).unwrap();
-    let counts = without_each(|| grid.counts(&target, Some(&chunks), (0, 3))).unwrap();
-    assert_eq!((counts.lines(), counts.share()), (Some(8), Some(0..2)));
+    let tasks = |options| grid.tasks(&encoding, &target, &encoding, options);
+    assert_eq!(without_each(|| count(tasks(TaskOptions::default())?)), Ok(2 * 10));
     let rest = || {
-        let mut copies = copies()?.within(&chunks)?;
-        copies.nth(2).transpose()?;
-        count(copies)
+        let mut tasks = tasks(TaskOptions::default())?;
+        tasks.nth(2).transpose()?;
+        count(tasks)
     };
-    assert_eq!(without_each(rest), Ok(8 - 3));
-    let (subset, at) = (ArraySubset::new_with_ranges(&[0..4, 1..36]).unwrap(), [1, 0]);
-    let copies = || grid.copies_of_region(&encoding, &target, &encoding, &subset, &at);
-    assert_eq!(without_each(|| count(copies()?)), Ok(2 * 9));
-    assert_eq!(without_each(|| count(copies()?.within(&chunks)?)), Ok(7));
-    let counts = without_each(|| grid.counts_of_region(&target, &subset, &at, (0, 1))).unwrap();
-    assert_eq!((counts.lines(), counts.elements()), (Some(2 * 9), Some(4 * 35)));
+    assert_eq!(without_each(rest), Ok(2 * 10 - 3));
+    let subset = ArraySubset::new_with_ranges(&[0..4, 1..36]).unwrap();
+    let options = TaskOptions { subset: Some(&subset), at: Some(&[1, 0]), ..Default::default() };
+    assert_eq!(without_each(|| count(tasks(options)?)), Ok(2 * 9));
+    let counts = without_each(|| grid.task_counts(&target, options, (0, 3))).unwrap();
+    assert_eq!((counts.tasks(), counts.share()), (Some(2 * 9), Some(0..6)));
+    let options = TaskOptions { task_chunks: Some(&[2, 1]), order: TaskOrder::Source, ..options };
+    assert_eq!(without_each(|| count(tasks(options)?)), Ok(12));
+    let counts = without_each(|| grid.task_counts(&target, options, (0, 1))).unwrap();
+    assert_eq!((counts.tasks(), counts.elements_moved()), (Some(12), Some(4 * 35)));
 }
 
 #[test]

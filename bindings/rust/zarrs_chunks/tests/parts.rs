@@ -2,12 +2,8 @@
 
 mod common;
 
-use common::{default_key, small_models, wide_model, Axis, Model, Numbers, GREATEST};
+use common::{default_key, grid_of, small_models, wide_model, Axis, Model, Numbers, GREATEST};
 use zarrs_chunks::{ArraySubset, Encoding, Grid, Part, Parts};
-
-fn grid_of(model: &Model) -> Grid {
-    Grid::new(&model.shape, &model.chunk_grid()).unwrap()
-}
 
 fn by_default() -> Encoding {
     Encoding::new("\"default\"").unwrap()

@@ -4,8 +4,7 @@ mod common;
 
 use std::collections::BTreeSet;
 
-use common::copying::{grid_of, regular};
-use common::{row_major, small_models, Axis, Model, Numbers, GREATEST};
+use common::{grid_of, regular, row_major, small_models, Axis, Model, Numbers, GREATEST};
 use zarrs_chunks::{ChangedChunks, Error, Grid};
 
 type Chunks = BTreeSet<Vec<u64>>;

@@ -7,12 +7,14 @@ use std::collections::BTreeMap;
 use std::num::NonZeroU64;
 
 use common::json::{
-    written, written_box, written_changes, written_copies, written_counts, written_items,
-    written_part, written_region_copies, written_text, Json,
+    written, written_box, written_changes, written_items, written_part, written_task,
+    written_task_counts, written_text, Json,
 };
 use common::vectors::vectors;
 use common::GREATEST;
-use zarrs_chunks::{answer, byte_ranges, ArraySubset, Encoding, Error, Grid, MemoryOrder};
+use zarrs_chunks::{
+    answer, byte_ranges, ArraySubset, Encoding, Error, Grid, MemoryOrder, TaskOptions, TaskOrder,
+};
 
 #[test]
 fn each_vector_is_answered() {
@@ -30,7 +32,7 @@ fn each_vector_is_answered() {
 /// So many vectors at least are put to methods, of so many calls. The others are those whose question
 /// can't be read, and walks over boxes from a number on, which counts chunks and not boxes.
 const PUT: usize = 1315;
-const CALLS: usize = 30;
+const CALLS: usize = 28;
 
 #[test]
 fn each_vector_that_a_method_can_be_asked_is_answered_by_it() {
@@ -164,38 +166,28 @@ fn by_method(call: &str, asked: Json<'_>) -> Result<String, String> {
                 None => Ok("null".to_owned()),
             }
         }
-        "copies" => {
+        "tasks" | "task_counts" => {
             let encoding = encoding_in(asked)?;
-            let (target_grid, target_encoding) = target_of(asked, asked)?;
-            let mut copies = told(grid.copies(&encoding, &target_grid, &target_encoding))?;
-            if let Some(chunks) = asked.get("chunks") {
-                let within = told(copies.within(&box_of(chunks)?));
-                copies = within.map_err(|words| format!("the box of chunks: {words}"))?;
+            let (target, target_encoding) = target_of(asked)?;
+            let subset = asked.get("subset").map(box_of).transpose()?;
+            let [at, task_chunks] =
+                ["at", "task_chunks"].map(|name| asked.get(name).map(Json::list));
+            let options = TaskOptions {
+                subset: subset.as_ref(),
+                at: at.as_deref(),
+                task_chunks: task_chunks.as_deref(),
+                order: match asked.get("order").map(Json::text).as_deref() {
+                    Some("source") => TaskOrder::Source,
+                    _ => TaskOrder::Target,
+                },
+            };
+            if call == "tasks" {
+                let tasks = told(grid.tasks(&encoding, &target, &target_encoding, options))?;
+                return page(asked, tasks, |task| written_task(&task));
             }
-            page(asked, copies, |copies| written_copies(&copies))
-        }
-        "counts" => {
-            // They are alike whichever the encodings are, which are made first all the same.
-            encoding_in(asked)?;
-            let (target_grid, _) = target_of(asked, asked)?;
-            let chunks = asked.get("chunks").map(box_of).transpose()?;
-            let counts = grid.counts(&target_grid, chunks.as_ref(), share_in(asked));
-            let counts = told(counts).map_err(|words| format!("the box of chunks: {words}"))?;
-            Ok(written_counts(&counts))
-        }
-        "copies_of_region" => {
-            let encoding = encoding_in(asked)?;
-            let (target, target_encoding) = target_of(asked, asked.member("target"))?;
-            let (subset, at) = region_in(asked, &target)?;
-            let copies = grid.copies_of_region(&encoding, &target, &target_encoding, &subset, &at);
-            page(asked, told(copies)?, |copies| written_region_copies(&copies))
-        }
-        "counts_of_region" => {
-            encoding_in(asked)?;
-            let (target, _) = target_of(asked, asked.member("target"))?;
-            let (subset, at) = region_in(asked, &target)?;
-            let counts = grid.counts_of_region(&target, &subset, &at, share_in(asked));
-            Ok(written_counts(&told(counts)?))
+            let share = asked.get("share").map_or(vec![0, 1], Json::list);
+            let counts = told(grid.task_counts(&target, options, (share[0], share[1])))?;
+            Ok(written_task_counts(&counts))
         }
         "changed_chunks" => {
             Ok(written_changes(&told(grid.changed_chunks(&asked.member("resize").list()))?))
@@ -236,22 +228,12 @@ fn encoding_in(stored: Json<'_>) -> Result<Encoding, String> {
     told(Encoding::new(stored.member("chunk_key_encoding").0))
 }
 
-/// The target of a question, whose array has the shape that this array has.
-fn target_of(asked: Json<'_>, array: Json<'_>) -> Result<(Grid, Encoding), String> {
+/// The target of a question, whose array has the shape of the question's unless it says another.
+fn target_of(asked: Json<'_>) -> Result<(Grid, Encoding), String> {
     let target = asked.member("target");
+    let array = if target.get("shape").is_some() { target } else { asked };
     let made = || Ok((grid_in(array, target)?, encoding_in(target)?));
     made().map_err(|words: String| format!("field `target`: {words}"))
-}
-
-/// The box that is copied, and the index where it begins in the target's array.
-fn region_in(asked: Json<'_>, target: &Grid) -> Result<(ArraySubset, Vec<u64>), String> {
-    let at = asked.get("at").map_or(vec![0; target.dimensionality()], Json::list);
-    Ok((box_of(asked.member("subset"))?, at))
-}
-
-fn share_in(asked: Json<'_>) -> (u64, u64) {
-    let share = asked.get("share").map_or(vec![0, 1], Json::list);
-    (share[0], share[1])
 }
 
 fn box_of(lists: Json<'_>) -> Result<ArraySubset, String> {

@@ -2,12 +2,8 @@
 
 mod common;
 
-use common::{great_models, small_models, wide_model, Axis, Model, GREATEST};
+use common::{great_models, grid_of, small_models, wide_model, Axis, Model, GREATEST};
 use zarrs_chunks::{ArraySubset, Grid};
-
-fn grid_of(model: &Model) -> Grid {
-    Grid::new(&model.shape, &model.chunk_grid()).unwrap()
-}
 
 fn subset_of((start, shape): &(Vec<u64>, Vec<u64>)) -> ArraySubset {
     ArraySubset::new_with_start_shape(start.clone(), shape.clone()).unwrap()

@@ -1,7 +1,7 @@
 //! A tiny reader of JSON, which is to be well-formed, and what writes answers as the vectors have
 //! them.
 
-use zarrs_chunks::{ArraySubset, ChangedChunks, ChunkCopies, Counts, Part};
+use zarrs_chunks::{ArraySubset, ChangedChunks, Part, Task, TaskCounts};
 
 /// A value, as the text that it is.
 #[derive(Debug, Clone, Copy, PartialEq, Eq)]
@@ -103,53 +103,54 @@ pub fn written_part(part: &Part) -> String {
     )
 }
 
-/// An item of `copies`.
-pub fn written_copies(copies: &ChunkCopies) -> String {
-    assert!(copies.whole, "a rechunking fills each chunk");
-    format!("{{{}}}", written_from_and_to(copies))
-}
-
-/// An item of `copies_of_region`.
-pub fn written_region_copies(copies: &ChunkCopies) -> String {
-    format!(r#"{{{},"whole":{}}}"#, written_from_and_to(copies), copies.whole)
-}
-
-fn written_from_and_to(copies: &ChunkCopies) -> String {
-    let source = |source: &zarrs_chunks::Source| {
+/// An item of `tasks`.
+pub fn written_task(task: &Task) -> String {
+    let sources = task.sources.iter().map(|it| {
         format!(
-            r#"{{"chunk":{},"in_chunk":{},"in_target":{},"key":{}}}"#,
-            written(&source.chunk),
-            written_box(&source.in_chunk),
-            written_box(&source.in_target),
-            written_text(&source.key)
+            "{{{}}}",
+            written_piece(&it.chunk, [&it.in_buffer, &it.in_chunk], &it.key, &it.shape)
         )
-    };
-    let sources: Vec<_> = copies.sources.iter().map(source).collect();
+    });
+    let targets = task.targets.iter().map(|it| {
+        let piece = written_piece(&it.chunk, [&it.in_buffer, &it.in_chunk], &it.key, &it.shape);
+        format!(r#"{{{piece},"whole":{}}}"#, it.whole)
+    });
     format!(
-        r#""from":[{}],"to":{{"chunk":{},"key":{}}}"#,
-        sources.join(","),
-        written(&copies.chunk),
-        written_text(&copies.key)
+        r#"{{"buffer":{},"from":[{}],"to":[{}]}}"#,
+        written(&task.buffer),
+        sources.collect::<Vec<_>>().join(","),
+        targets.collect::<Vec<_>>().join(",")
     )
 }
 
-pub fn written_counts(counts: &Counts) -> String {
-    let number = |number: Option<u64>| number.map_or("null".to_owned(), |it| it.to_string());
-    let counted = |factors: &Option<Vec<u64>>| {
-        factors.as_ref().map_or("null".to_owned(), |factors| written(factors))
-    };
+fn written_piece(chunk: &[u64], boxes: [&ArraySubset; 2], key: &str, shape: &[u64]) -> String {
+    format!(
+        r#""chunk":{},"in_buffer":{},"in_chunk":{},"key":{},"shape":{}"#,
+        written(chunk),
+        written_box(boxes[0]),
+        written_box(boxes[1]),
+        written_text(key),
+        written(shape)
+    )
+}
+
+/// The answer of `task_counts`.
+pub fn written_task_counts(counts: &TaskCounts) -> String {
+    let number = |number: &Option<u64>| number.map_or("null".to_owned(), |it| it.to_string());
+    let decoded: Vec<_> = counts.elements_decoded.iter().map(number).collect();
     format!(
         concat!(
-            r#"{{"copies":{},"elements":{},"largest_line":{},"lines":{},"#,
-            r#""share":[{},{}],"source_chunks":{}}}"#
+            r#"{{"chunks_read":{},"chunks_written":{},"elements_decoded":[{}],"#,
+            r#""elements_moved":{},"largest_task":{},"share":[{},{}],"tasks":{}}}"#
         ),
-        counted(&counts.copies),
-        written(&counts.elements),
-        counted(&counts.largest_line),
-        written(&counts.lines),
-        number(counts.first),
-        number(counts.end),
-        written(&counts.source_chunks)
+        written(&counts.chunks_read),
+        written(&counts.chunks_written),
+        decoded.join(","),
+        written(&counts.elements_moved),
+        written(&counts.largest_task),
+        number(&counts.first),
+        number(&counts.end),
+        written(&counts.tasks)
     )
 }
 

@@ -1,13 +1,13 @@
 //! What grids answer, by plain arithmetic with 128 bits, and the texts that tell them.
 #![allow(dead_code)]
 
-pub mod copying;
 pub mod json;
 pub mod vectors;
 
 use std::ops::Range;
 
 pub use json::written as json;
+use zarrs_chunks::Grid;
 
 pub const GREATEST: u64 = u64::MAX;
 
@@ -209,53 +209,6 @@ impl Model {
         Some(row_major(&first, &counts).into_iter().map(part).collect())
     }
 
-    /// What is copied into each chunk of a target that holds elements of the array: the chunk, and
-    /// the parts of the box that its elements are in the array.
-    pub fn copies(&self, target: &Model) -> Vec<(Vec<u64>, Parts)> {
-        let begin = vec![0; self.dimensionality()];
-        let copies = self.copies_of_region(target, &begin, &self.shape, &begin);
-        let copied = copies.into_iter().map(|(chunk, sources, is_whole)| {
-            assert!(is_whole);
-            (chunk, sources)
-        });
-        copied.collect()
-    }
-
-    /// What is copied of a box into each chunk of a target, in whose array it begins at an index:
-    /// the chunk, the parts of the box that it takes, counted from its first element, and whether
-    /// they are all that it holds of its array.
-    pub fn copies_of_region(
-        &self,
-        target: &Model,
-        start: &[u64],
-        shape: &[u64],
-        at: &[u64],
-    ) -> Vec<(Vec<u64>, Parts, bool)> {
-        if shape.contains(&0) {
-            return Vec::new();
-        }
-        let (first, counts) = target.cover(at, shape).unwrap();
-        let copied = |chunk: Vec<u64>| {
-            let (mut begins, mut sizes, mut places) = (Vec::new(), Vec::new(), Vec::new());
-            let mut is_whole = true;
-            for (axis, (held, _)) in target.held(&chunk).unwrap().into_iter().enumerate() {
-                let from = u128::from(at[axis]);
-                let begin = held.start.max(from);
-                let end = held.end.min(from + u128::from(shape[axis]));
-                is_whole &= (begin..end) == held;
-                begins.push(start[axis] + (begin - from) as u64);
-                sizes.push((end - begin) as u64);
-                places.push((begin - held.start) as u64);
-            }
-            let mut sources = self.parts(&begins, &sizes).unwrap();
-            for [_, _, in_target, _] in &mut sources {
-                in_target.iter_mut().zip(&places).for_each(|(number, place)| *number += place);
-            }
-            (chunk, sources, is_whole)
-        };
-        row_major(&first, &counts).into_iter().map(copied).collect()
-    }
-
     /// The elements of the array that a chunk holds along each dimension, and how many it has with
     /// those past the array; `None` where it holds none.
     pub fn held(&self, chunk: &[u64]) -> Option<Vec<(Range<u128>, u128)>> {
@@ -267,6 +220,14 @@ impl Model {
         });
         along.collect()
     }
+}
+
+pub fn grid_of(model: &Model) -> Grid {
+    Grid::new(&model.shape, &model.chunk_grid()).unwrap()
+}
+
+pub fn regular(shape: &[u64], edges: &[u64]) -> Model {
+    Model::new("regular", shape, edges.iter().map(|edge| Axis::Fixed(*edge)).collect())
 }
 
 /// All lists of a box of numbers, in row-major order.
