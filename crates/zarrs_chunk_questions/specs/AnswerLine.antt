@@ -32,7 +32,7 @@ pub data IsAnswerLine (line answer : List ℕ) : Type 0 where
   refused : (d : Data) (question : Question) (fault : LineFault) (text : List ℕ) → IsJsonOf line d → IsReading d (Ok question)
       → IsRefusal question fault → Tells fault text → answer ≡ line_of text → IsAnswerLine line answer
 
--- the line asks for some items of a walk or of a plan
+-- the line asks for some items: of a walk or of a plan, or for tasks
 abbrev pub AsksForItems : List ℕ → Type 0
 AsksForItems line = (d : Data) × (question : Question) × IsJsonOf line d × IsReading d (Ok question) × IsSome (items_asked question)
 

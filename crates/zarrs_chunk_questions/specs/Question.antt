@@ -38,7 +38,7 @@ pub record TargetArray : Type 0 where
   pub chunk_key_encoding : Data
 
 -- A copy: the target; a box of the array's elements, and the index in the target's array that it begins at; how many neighbouring chunks a task takes,
--- each if it is given; and of which of the two arrays.
+-- and of which of the two arrays. All but the target and the order may be missing.
 pub record CopyAsked : Type 0 where
   pub target : TargetArray
   pub subset : Option Lists
@@ -46,7 +46,7 @@ pub record CopyAsked : Type 0 where
   pub task_chunks : Option (List ℕ)
   pub order : Order
 
--- a share of the tasks: its number, counted from 0, and how many there are
+-- a share of the tasks: its number, counted from 0, and how many shares there are
 abbrev pub ShareAsked : Type 0
 ShareAsked = ℕ × ℕ
 

@@ -22,7 +22,7 @@ use Rattle.zarrs_chunk_tasks.specs.Tasks.{IsTasksFault}
 use Rattle.zarrs_chunk_questions.specs.Answers.{AnswersCoverOf}
 use Rattle.zarrs_chunk_questions.specs.Question.{Asked, BytesAsked, CopyAsked, Lists, Question, byte_ranges, changed_chunks, counted, decode, encode}
 use Rattle.zarrs_chunk_questions.specs.Question.{located, of_array, of_box, of_grid, of_numbers, of_walk, parts, runs, task_counts, tasks}
-use Rattle.zarrs_chunk_questions.specs.Tasks.{Copy, IsCopyAsked, source_dimensions, target_dimensions}
+use Rattle.zarrs_chunk_questions.specs.Tasks.{Copy, HasTasksOf, IsCopyAsked, source_dimensions, target_dimensions}
 use Rattle.zarrs_chunk_questions.specs.Trees.{box_of}
 use Rattle.zarrs_chunk_questions.specs.declared.call.OfBox.{OfBox}
 use Rattle.zarrs_chunk_questions.specs.declared.call.OfBox.TheVariants.{ChunksInArraySubset, ChunksSubset}
@@ -107,7 +107,7 @@ abbrev pub IsNoBoxOf : Option Lists → LineFault → Type 0
 IsNoBoxOf (Some lists) fault = IsNoBox (box_of lists) fault
 IsNoBoxOf None fault = ⊥
 
--- Why the copy that is asked for can't be made: there is no encoding of the array; the target's grid can't be made; its encoding can't; or the box can't.
+-- Why there is no target, or no region: the target's grid can't be made; its encoding can't; or the start and the shape make no box.
 abbrev pub IsNoTarget : (shape : List ℕ) → CopyAsked → LineFault → Type 0
 IsNoTarget shape asked fault =
     IsOfTarget (IsNoGrid asked.target.chunk_grid shape) fault
@@ -115,6 +115,7 @@ IsNoTarget shape asked fault =
     × (IsOfTarget (IsNoEncoding asked.target.chunk_key_encoding) fault
     ⊎ ((encoding : Encoding) × IsEncodingIn asked.target.chunk_key_encoding encoding × IsNoBoxOf asked.subset fault)))
 
+-- why the copy that is asked for can't be made: the array's encoding can't; or there is no target, or no region
 abbrev pub IsNoCopy : (shape : List ℕ) → Data → CopyAsked → LineFault → Type 0
 IsNoCopy shape tree asked fault =
     IsNoEncoding tree fault
@@ -131,11 +132,11 @@ HasNoTasks copy (Tasks error) =
     IsTasksFault (array_sizes (source_dimensions copy)) (array_sizes (target_dimensions copy)) copy.region copy.at copy.each error
 HasNoTasks _ _ = ⊥
 
--- they aren't counted: it has none, or there are too many chunks
+-- they aren't counted: it has none; or there are too many chunks
 abbrev pub HasNoCounts : Copy → LineFault → Type 0
 HasNoCounts copy fault =
     HasNoTasks copy fault
-    ⊎ ((fault ≡ TooManyToCount)
+    ⊎ (HasTasksOf copy × (fault ≡ TooManyToCount)
     × HaveMany most_to_count (source_dimensions copy) (target_dimensions copy) copy.region (moved copy.at copy.region))
 
 -- it is the fault of the grid of the new shape

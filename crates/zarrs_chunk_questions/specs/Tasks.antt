@@ -60,10 +60,11 @@ region_of (Some lists) ds = box_of lists
 region_of None ds = array_box ds
 
 -- The copy that is asked for, of an array of this shape with this grid. The other grid and the encodings are made of the trees that the question gives.
--- What isn't given is the array's shape, the box of all elements, the first index, and one chunk along each dimension.
-pub record IsCopyAsked (shape : List ℕ) (tree : Data) (asked : CopyAsked) (grid : Grid) (copy : Copy) : Type 0 where
+-- If the question doesn't give them, the target's shape is the array's, the region is the box of all elements, `at` is 0 in each dimension, and a task
+-- takes one chunk along each.
+pub record IsCopyAsked (shape : List ℕ) (encoding : Data) (asked : CopyAsked) (grid : Grid) (copy : Copy) : Type 0 where
   pub same_grid : copy.source.0 ≡ grid
-  pub is_encoding : IsEncodingIn tree copy.source.1
+  pub is_encoding : IsEncodingIn encoding copy.source.1
   pub target_kind : GridKind
   pub is_target_grid : IsGridIn asked.target.chunk_grid (unwrap_or asked.target.shape shape) target_kind copy.target.0
   pub is_target_encoding : IsEncodingIn asked.target.chunk_key_encoding copy.target.1
@@ -75,7 +76,7 @@ pub record IsCopyAsked (shape : List ℕ) (tree : Data) (asked : CopyAsked) (gri
 
 -- ---- the tasks
 
--- what of a task's parts is written says whether it is all that its chunk has of the array
+-- A part that is written says whether the task writes all that the chunk has of the array. A part that is read doesn't say it.
 abbrev pub whole_if : (written : Bool) → Part → Members
 whole_if true part = member (codes "whole") (boolean part.whole) no_members
 whole_if false part = no_members
@@ -119,7 +120,7 @@ number_tree number = or_null size_tree (counted number)
 abbrev pub count_tree : (CountsAlong → ℕ) → List CountsAlong → Data
 count_tree count along = array (items_of (map (λ counts. number_tree (count counts)) along))
 
--- of so many tasks those of a share: from the first number on up to the second, which isn't among them
+-- of so many tasks those of a share: the number of the first one, and of the first one after them
 abbrev pub share_tree : ShareAsked → (tasks : ℕ) → Data
 share_tree (number, of) tasks =
     array (items_of (number_tree (before_share number of tasks) ∷ number_tree (before_share (number + 1) of tasks) ∷ []))
@@ -134,7 +135,8 @@ counts_tree share region along =
     (member (codes "share") (share_tree share (in_all (λ counts. counts.tasks) along))
     (member (codes "tasks") (count_tree (λ counts. counts.tasks) along) no_members)))))))
 
--- The counts of the tasks: one number a dimension; without elements, each is 0.
+-- The counts of the tasks, each by one number a dimension, of which it is the product. If the region is empty, each of these numbers is 0.
+-- `elements_moved` is the region's shape.
 pub record IsCountsAnswer (copy : Copy) (share : ShareAsked) (t : Data) : Type 0 where
   pub has : HasTasksOf copy
   pub counts : List CountsAlong
@@ -147,12 +149,12 @@ pub record IsCountsAnswer (copy : Copy) (share : ShareAsked) (t : Data) : Type 0
 
 -- what is answered of the copy that is asked for
 abbrev pub IsCopyAnswer : (Copy → Data → Type 0) → (shape : List ℕ) → Data → CopyAsked → Grid → Data → Type 0
-IsCopyAnswer Answers shape tree asked grid t = (copy : Copy) × IsCopyAsked shape tree asked grid copy × Answers copy t
+IsCopyAnswer Answers shape encoding asked grid t = (copy : Copy) × IsCopyAsked shape encoding asked grid copy × Answers copy t
 
 -- the answer to `tasks`
 abbrev pub IsSomeTasksAnswer : (shape : List ℕ) → Data → CopyAsked → Items → Grid → Data → Type 0
-IsSomeTasksAnswer shape tree asked items = IsCopyAnswer (λ copy. IsTasksAnswer copy (first_of items) items.most) shape tree asked
+IsSomeTasksAnswer shape encoding asked items = IsCopyAnswer (λ copy. IsTasksAnswer copy (first_of items) items.most) shape encoding asked
 
 -- the answer to `task_counts`
 abbrev pub IsTaskCountsAnswer : (shape : List ℕ) → Data → CopyAsked → ShareAsked → Grid → Data → Type 0
-IsTaskCountsAnswer shape tree asked share = IsCopyAnswer (λ copy. IsCountsAnswer copy share) shape tree asked
+IsTaskCountsAnswer shape encoding asked share = IsCopyAnswer (λ copy. IsCountsAnswer copy share) shape encoding asked

@@ -69,6 +69,7 @@ pub(crate) struct CopyAsked<'t> {
     pub(crate) at: Option<Vec<u64>>,
     /// How many neighbouring chunks a task takes along each dimension; `None`: one.
     pub(crate) task_chunks: Option<Vec<NonZeroU64>>,
+    /// Of which array a task takes chunks.
     pub(crate) order: Order,
 }
 

@@ -18,12 +18,12 @@ use serde_json::{Map, Value};
 use std::alloc::{AllocError, Global};
 use zarrs_chunk_base::{ArrayShape, ArraySubset, Refusal, write_list};
 use zarrs_chunk_plan::Share;
-use zarrs_chunk_tasks::{Count, CountsAlong, can_count, task_counts_by};
+use zarrs_chunk_tasks::{Count, CountsAlong, can_count, task_counts_by, tasks_by};
 
 /// The tree of how much the tasks of a copy read and write, and of the numbers of a share's tasks.
 ///
 /// # Errors
-/// The copy has no tasks; there are too many chunks to count them; or out of memory.
+/// The first that applies: the copy has no tasks; there are too many chunks to count them. Or out of memory.
 pub(crate) fn counts_of(
     alloc: Global,
     copying: &Copying,
@@ -42,6 +42,10 @@ pub(crate) fn counts_of(
         task_chunks,
     } = copying;
     let (from, into) = (&source.grid, &target.grid);
+    match tasks_by(alloc, *order, from, into, region, at, task_chunks) {
+        Ok(_) => {}
+        Err(refusal) => return Err(refusal.map(LineFault::Tasks)),
+    }
     let can = can_count(alloc, from, into, region, at)?;
     if !can {
         return Err(Refusal::Refused(LineFault::TooManyToCount));
@@ -130,10 +134,11 @@ fn share_tree(alloc: Global, share: &Share, tasks: &[u64]) -> Result<Value, Allo
 fn as_size(number: u128) -> Option<u64>
     ensures { result ≡ counted number }
 {
-    if number > u64::MAX as u128 {
-        return None;
+    if number <= u64::MAX as u128 {
+        Some(number as u64)
+    } else {
+        None
     }
-    Some(number as u64)
 }
 
 /// The tree of a number, or `null` where there is none.

@@ -1,4 +1,4 @@
-//! How many items of a walk and of a plan are given.
+//! How many items of a walk or of a plan are given, and how many tasks.
 ghost use Rattle.std.specs.Prelude.{◌≡◌, ◌==◌, ◌+◌, ◌*◌, ◌<◌, min};
 
 /// How many items are given.

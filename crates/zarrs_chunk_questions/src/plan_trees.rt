@@ -28,7 +28,7 @@ pub(crate) fn part_tree(alloc: Global, part: &Part) -> Result<Value, AllocError>
 }
 
 /// What a chunk and the buffer of a task share: `{"chunk":[..],"in_buffer":[start,shape],"in_chunk":[start,shape],"key":"..","shape":[..]}`.
-fn overlap_members(alloc: Global, part: &Part) -> Result<Map, AllocError>
+fn overlap_members(alloc: Global, part: &Part) -> Result<Map<String, Value>, AllocError>
     ensures { IfOk result (λ members. members_view members.entries ≡ members_of_overlap part.now no_members) }
 {
     let chunk = write_list(alloc, part.chunk.as_slice())?;
