@@ -17,7 +17,14 @@ pub fn most_sources<G: ChunkGridTraits, E: ChunkKeyEncodingTraits, H: ChunkGridT
 ) -> Result<u64, Refusal<TasksError>> {
     let array = whole_array(alloc, target)?;
     let mut most = 0u64;
-    for task in tasks(alloc, &source.grid, target, &array, array.start(), task_chunks)? {
+    for task in tasks(
+        alloc,
+        &source.grid,
+        target,
+        &array,
+        array.start(),
+        task_chunks,
+    )? {
         let task = task?;
         let read = expect_answer(parts(alloc, &source.grid, &source.encoding, &task.source))?;
         let mut count = 0u64;
