@@ -37,8 +37,8 @@ pub record TargetArray : Type 0 where
   pub chunk_grid : Data
   pub chunk_key_encoding : Data
 
--- A copy: the target; a box of the array's elements, and the index in the target's array that it begins at; how many neighbouring chunks a task takes,
--- and of which of the two arrays. All but the target and the order may be missing.
+-- A copy: the target; a box of the array's elements, and the index in the target's array that it begins at; how many neighbouring chunks a task takes.
+-- The order names the array whose chunks these are. All but the target and the order may be missing.
 pub record CopyAsked : Type 0 where
   pub target : TargetArray
   pub subset : Option Lists
@@ -124,7 +124,7 @@ target_in d =
 abbrev pub named_order : List ℕ → Option Order
 named_order text = cond (bytes_eq text (codes "target")) (Some Target) (cond (bytes_eq text (codes "source")) (Some Source) None)
 
--- of which array tasks take chunks: of the target, where that isn't given
+-- the array whose chunks tasks take: the target if the member is missing
 abbrev pub task_order_in : Data → Reading Order
 task_order_in d =
     then (optional_in (λ text. option_and_then named_order (as_str text)) (codes "order") d) (λ order.
@@ -139,7 +139,7 @@ copy_in target d =
     then (task_order_in d) (λ order.
     Ok (record { target = target; subset = subset; at = at; task_chunks = each; order = order })))))
 
--- the one share that has all, where none is given; a share's number is below how many there are
+-- the one share that has all, if no share is given; a share's number is below how many there are
 abbrev pub one_of : Option ShareAsked → Reading ShareAsked
 one_of None = Ok (0, 1)
 one_of (Some share) = cond (nat_lt share.0 share.1) (Ok share) (Err (wrong_value (codes "share")))

@@ -54,14 +54,14 @@ module _ (copy : Copy) where
   abbrev pub HasPartsOf : TaskPlan → Type 0
   HasPartsOf = HasParts source_dimensions target_dimensions (IsKey copy.source.1) (IsKey copy.target.1)
 
--- the box that is copied: that of all elements, where none is given
+-- the box that is copied: the box of all elements if the question gives no box
 abbrev pub region_of : Option Lists → List Dimension → Box
 region_of (Some lists) ds = box_of lists
 region_of None ds = array_box ds
 
 -- The copy that is asked for, of an array of this shape with this grid. The other grid and the encodings are made of the trees that the question gives.
--- If the question doesn't give them, the target's shape is the array's, the region is the box of all elements, `at` is 0 in each dimension, and a task
--- takes one chunk along each.
+-- If the question doesn't give them, the target's shape is the array's and the region is the box of all elements. Then `at` is 0 in each dimension, and
+-- a task takes one chunk along each.
 pub record IsCopyAsked (shape : List ℕ) (encoding : Data) (asked : CopyAsked) (grid : Grid) (copy : Copy) : Type 0 where
   pub same_grid : copy.source.0 ≡ grid
   pub is_encoding : IsEncodingIn encoding copy.source.1
@@ -100,7 +100,7 @@ task_tree plan =
     (member (codes "from") (array (items_of (map (overlap_tree false) plan.1.0)))
     (member (codes "to") (array (items_of (map (overlap_tree true) plan.1.1))) no_members)))
 
--- at most so many of the tasks, from the one with this number on, each with its parts
+-- up to `most` of the tasks, from the one with the number `first` on, each with its parts
 pub record IsTasksAnswer (copy : Copy) (first most : ℕ) (t : Data) : Type 0 where
   pub has : HasTasksOf copy
   pub tasks : List Task
@@ -120,7 +120,7 @@ number_tree number = or_null size_tree (counted number)
 abbrev pub count_tree : (CountsAlong → ℕ) → List CountsAlong → Data
 count_tree count along = array (items_of (map (λ counts. number_tree (count counts)) along))
 
--- of so many tasks those of a share: the number of the first one, and of the first one after them
+-- a share of the tasks: the number of the first one, and of the first one after them
 abbrev pub share_tree : ShareAsked → (tasks : ℕ) → Data
 share_tree (number, of) tasks =
     array (items_of (number_tree (before_share number of tasks) ∷ number_tree (before_share (number + 1) of tasks) ∷ []))

@@ -51,7 +51,7 @@ pub(crate) struct Items {
     pub(crate) first: Option<u64>,
 }
 
-/// The array that elements are copied to: its shape, `None` for that of the array, and the trees of a grid's and an encoding's metadata.
+/// The array that elements are copied to: its shape, `None` if it has the array's shape, and the trees of a grid's and an encoding's metadata.
 #[derive(Drop)]
 pub(crate) struct TargetArray<'t> {
     pub(crate) shape: Option<Vec<u64>>,
@@ -63,7 +63,7 @@ pub(crate) struct TargetArray<'t> {
 #[derive(Drop)]
 pub(crate) struct CopyAsked<'t> {
     pub(crate) target: TargetArray<'t>,
-    /// The box of the array's elements; `None`: that of all.
+    /// The box of the array's elements; `None`: all elements.
     pub(crate) subset: Option<Lists>,
     /// The index that it begins at in the target's array; `None`: 0 in each dimension.
     pub(crate) at: Option<Vec<u64>>,
@@ -193,7 +193,7 @@ fn copy_to<'t>(
     })
 }
 
-/// Of which array tasks take chunks: the member `order`; the target, where there is none.
+/// The array whose chunks tasks take: the member `order`; the target if the member is missing.
 ///
 /// # Errors
 /// `order` is neither `target` nor `source`.

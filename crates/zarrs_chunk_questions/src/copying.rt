@@ -34,7 +34,7 @@ pub(crate) struct Copying {
     pub(crate) region: ArraySubset,
     /// The index in the target's array at which they begin.
     pub(crate) at: Vec<u64>,
-    /// Of which array a task takes chunks, and how many along each dimension.
+    /// The array whose chunks a task takes, and how many along each dimension.
     pub(crate) order: Order,
     pub(crate) task_chunks: Vec<NonZeroU64>,
 }
@@ -120,7 +120,7 @@ fn make_target(
     }
 }
 
-/// The box that is given, or that of all elements.
+/// The box that is given, or the box of all elements.
 ///
 /// # Errors
 /// The start and the shape make no box; or out of memory.

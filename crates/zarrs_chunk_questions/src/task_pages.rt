@@ -77,7 +77,7 @@ pub(crate) fn tasks_from(
     Ok(Some(page_tree(alloc, trees, first, count, in_all)?))
 }
 
-/// The trees of the tasks that a walk has left, at most so many; `None` where they have so many parts, or more.
+/// The trees of the tasks that a walk has left, up to `most`; `None` if they have `too_many` parts, or more.
 ///
 /// # Errors
 /// Out of memory.
@@ -113,7 +113,7 @@ fn task_trees(
     Ok(Some(trees))
 }
 
-/// The tree of a task, and how many parts it has; `None` where they are so many, or more.
+/// The tree of a task, and how many parts it has; `None` if they are `too_many`, or more.
 ///
 /// # Errors
 /// Out of memory.
@@ -144,7 +144,7 @@ fn tree_of(
     Ok(Some((tree, count + written.len() as u128)))
 }
 
-/// The parts that a walk has left; `None` where they are so many, or more.
+/// The parts that a walk has left; `None` if they are `too_many`, or more.
 ///
 /// # Errors
 /// Out of memory.

@@ -30,7 +30,7 @@ abbrev pub IsStoredIn : (chunk_grid encoding : Data) → (shape : List ℕ) → 
 IsStoredIn chunk_grid encoding shape made =
     IsGridIn chunk_grid shape (kind_in made.grid) (grid_in made.grid) × IsEncodingIn encoding (encoding_in made.encoding)
 
--- why there is none: the grid can't be made; or the encoding
+-- why there is no such array: the grid can't be made; or the encoding
 abbrev pub IsNoStored : (chunk_grid encoding : Data) → (shape : List ℕ) → LineFault → Type 0
 IsNoStored chunk_grid encoding shape fault =
     IsOfTarget (IsNoGrid chunk_grid shape) fault
