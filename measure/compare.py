@@ -94,7 +94,7 @@ class Asking(Generator):
         members = self.region(shape) if max(shape, default=0) <= 40 and self.one_in(2) else {"target": self.storage(shape)}
         if self.one_in(2):
             each = [self.random.choice([1, 2, 3, self.random.randint(1, GREATEST)]) for _ in shape]
-            members["task_chunks"] = self.longer_or_shorter(each) if self.one_in(12) else each
+            members["task_chunks"] = [number or 1 for number in self.longer_or_shorter(each)] if self.one_in(12) else each
         if self.one_in(2):
             members["order"] = self.random.choice(["source", "target"])
         if self.one_in(2) and call == "tasks":
