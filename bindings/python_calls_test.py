@@ -272,7 +272,7 @@ def of_model(call):
 
 def walks_beside_model(tally, generator, model, grid):
     """Thirty items of each walk, from its beginning and from some chunk on, which is counted with those that have no box."""
-    in_all = int(np.prod(model.grid_shape(), dtype=object))
+    in_all = math.prod(model.grid_shape())
     for first in (0, min(generator.number(max(in_all - 1, 0)), GREATEST - 40)):
         rest, chunk = first, []
         for size in reversed(model.grid_shape()):
