@@ -35,6 +35,7 @@ from call_names import CALLS, OF_RECTILINEAR, WALKS  # noqa: E402
 from chunk_plans import changed_chunks_by_numbers, share as share_of_lines  # noqa: E402
 from extensions import GREATEST, Refused, grid_metadata, regular  # noqa: E402
 from memory import set_most, used  # noqa: E402
+from task_questions import answer_of  # noqa: E402
 
 CALLS_OF_A_SEED = 3000
 LONGEST = 60  # seconds
@@ -459,44 +460,53 @@ def ask_walks(rng):
         demand(f"{name} from {first}", as_lists(answer) if is_answered else repr(answer), right)
 
 
-def ask_copies(rng):
+def drawn_copy(rng):
+    """A question about the copy of a region, the grid that is asked, and the arguments by which it is asked about the copy, as they were drawn."""
     model, grid = model_of(rng, 2)
-    target = Model(grid_metadata("zarrs.regular_bounded", [rng.randrange(3, 20) for _ in model.shape]), model.shape)
-    counts = target.grid_shape()
-    start = [rng.randrange(count + 1) for count in counts]
-    box = rng.choice([None, [start, [rng.randrange(5) for _ in counts]]])
-    given = [draw(rng, value) for value in (Encoding("default"), Grid(target.shape, target.metadata()), Encoding("v2"), box)]
-    right = [*model.copies(DEFAULT, target, ModelKeys("v2"), box)]
+    target = bounded(rng, len(model.shape))
+    lengths = [rng.randrange(min(pair) + 1) for pair in zip(model.shape, target.shape)]
+    start, at = ([rng.randrange(size - length + 1) for size, length in zip(shape, lengths)] for shape in (model.shape, target.shape))
+    copy = {"subset": [start, lengths], "at": at, "task_chunks": [rng.randrange(1, 4) for _ in at], "order": rng.choice(["target", "source"])}
+    question = {
+        "shape": model.shape, "chunk_grid": model.metadata(), "chunk_key_encoding": "default",
+        "target": {"shape": target.shape, "chunk_grid": target.metadata(), "chunk_key_encoding": "v2"}, **copy,
+    }  # fmt: skip
+    given = {"target": Grid(target.shape, target.metadata()), **copy}
+    return question, grid, {name: draw(rng, value) for name, value in given.items()}
+
+
+def ask_tasks(rng):
+    question, grid, drawn = drawn_copy(rng)
+    drawn |= {"encoding": draw(rng, Encoding("default")), "target_encoding": draw(rng, Encoding("v2"))}
+    right = answer_of({**question, "call": "tasks", "items": GREATEST})["items"]
     if rng.random() < 0.5:
         first, most = rng.choice([0, 1, 7, GREATEST]), rng.choice([None, 0, 1, 5, GREATEST])
-        given += [draw(rng, first), draw(rng, most)]
+        drawn |= {"first": draw(rng, first), "most": draw(rng, most)}
         right = right[first:][:most]
-        call = lambda: [*itertools.islice(grid.copies(*(value for value, _good in given)), 10**4)]
     else:
-        tasks = rng.choice([1, 2, 3, 50, GREATEST])
-        task = rng.randrange(tasks)
-        given += [draw(rng, rng.choice([tuple, list, np.array])([np.uint64(task), np.uint64(tasks)]))]
-        right = [right[line] for line in share_of_lines(len(right), task, tasks)]
-        call = lambda: [*itertools.islice(grid.copies(*(value for value, _good in given[:-1]), share=given[-1][0]), 10**4)]
-    answer, is_answered = attempt(call)
-    if all(good for _value, good in given):
-        demand("copies", [copies_of_model(copies) for copies in answer] if is_answered else repr(answer), right)
+        workers = rng.choice([1, 2, 3, 50, GREATEST])
+        worker = rng.randrange(workers)
+        drawn["share"] = draw(rng, rng.choice([tuple, list, np.array])([np.uint64(worker), np.uint64(workers)]))
+        right = [right[line] for line in share_of_lines(len(right), worker, workers)]
+    found, is_answered = attempt(lambda: [*itertools.islice(grid.tasks(**values_of(drawn)), 10**4)])
+    if are_good(drawn):
+        demand("tasks", [task_of_model(task) for task in found] if is_answered else repr(found), right)
 
 
-def ask_counts(rng):
-    model, grid = model_of(rng, 2)
-    target = Model(grid_metadata("zarrs.regular_bounded", [rng.randrange(3, 20) for _ in model.shape]), model.shape)
-    counts = target.grid_shape()
-    box = rng.choice([None, [[rng.randrange(count + 1) for count in counts], [rng.randrange(5) for _ in counts]]])
-    given = [draw(rng, value) for value in (Grid(target.shape, target.metadata()), box)]
-    answer, is_answered = attempt(lambda: grid.counts(*(value for value, _good in given)))
-    if all(good for _value, good in given):
-        copies = [*model.copies(DEFAULT, target, ModelKeys("v2"), box)]
-        lengths = [len(item["from"]) for item in copies]
-        read = {tuple(part["chunk"]) for item in copies for part in item["from"]}
-        elements = sum(math.prod(part["in_chunk"][1]) for item in copies for part in item["from"])
-        right = (sum(lengths), elements, max(lengths, default=0), len(copies), len(read))
-        demand("counts", tuple(answer) if is_answered else repr(answer), right)
+def ask_task_counts(rng):
+    question, grid, drawn = drawn_copy(rng)
+    found, is_answered = attempt(lambda: grid.task_counts(**values_of(drawn)))
+    if are_good(drawn):
+        right = answer_of({**question, "call": "task_counts"})
+        demand("counts", found._asdict() if is_answered else repr(found), {name: math.prod(numbers) for name, numbers in right.items() if name != "share"})
+
+
+def values_of(drawn):
+    return {name: value for name, (value, _good) in drawn.items()}
+
+
+def are_good(drawn):
+    return all(good for _value, good in drawn.values())
 
 
 def ask_changed(rng):
@@ -532,10 +542,10 @@ def ask_bytes(rng):
     check_one(answer, is_answered, [drawn_edges, drawn_start, drawn_shape], right)
 
 
-def copies_of_model(copies):
-    """What the package answers of a chunk of a target, as the model has it."""
-    sources = [{name: as_lists(part) for name, part in source._asdict().items()} for source in copies.sources]
-    return {"from": sources, "to": {"chunk": list(copies.chunk), "key": copies.key}}
+def task_of_model(task):
+    """What the package answers of a task, as the model has it."""
+    pieces = [[{name: as_lists(part) for name, part in piece._asdict().items()} for piece in end] for end in (task.sources, task.targets)]
+    return {"buffer": list(task.buffer), "from": pieces[0], "to": pieces[1]}
 
 
 def ask_box(rng):
@@ -618,7 +628,8 @@ def ask_any_question(rng):
         "call": rng.choice(calls), "shape": model.shape, "chunk_grid": grid.metadata, "chunk_key_encoding": "default", "of": of,
         "items": rng.choice([0, 1, 100, GREATEST]), "dimensionality": rng.choice([0, 1, 2, GREATEST]),
         "target": {"chunk_grid": "regular", "chunk_key_encoding": "v2"} | ({"chunk_grid": grid.metadata} if rng.random() < 0.9 else {}),
-        "share": [rng.randrange(3), rng.choice([1, 2, 3, GREATEST])], "resize": index,
+        "share": [rng.randrange(3), rng.choice([1, 2, 3, GREATEST])], "resize": index, "order": rng.choice(["source", "target"]),
+        "subset": [[0] * len(index), index], "at": [0] * len(index), "task_chunks": [rng.choice([1, 2, GREATEST]) for _ in index],
         "chunk_shape": model.shape, "item_size": rng.choice([1, 8, GREATEST]), "memory_order": rng.choice("CF"),
     }  # fmt: skip
     question = {name: value if rng.random() < 0.9 else any_value(rng) for name, value in members.items() if rng.random() < 0.95}
@@ -629,7 +640,7 @@ def ask_any_question(rng):
 
 KINDS = (
     ask_of_grid, ask_of_grid, ask_covers, ask_parts, ask_keys, ask_chunks_of_keys, make_things, ask_any_question,
-    ask_of_one, ask_of_one, ask_runs, ask_walks, ask_copies, ask_counts, ask_changed, ask_bytes, ask_box, ask_stored,
+    ask_of_one, ask_of_one, ask_runs, ask_walks, ask_tasks, ask_task_counts, ask_changed, ask_bytes, ask_box, ask_stored,
 )  # fmt: skip
 
 
@@ -698,7 +709,6 @@ if __name__ == "__main__":
     os.environ.setdefault("ZARRS_CHUNKS_LIBRARY", str(shared_library()))
     if "--at" in sys.argv:
         from chunk_grids import Grid as Model
-        from chunk_keys import Encoding as ModelKeys
         from faults import DEFAULT, bounded, offsets_of, seen_parts
         from odd_values import Index, Lying, Raising, misaligned
         from zarrs_chunks import ByteRanges, Encoding, Grid, answer, byte_ranges

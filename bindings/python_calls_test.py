@@ -27,7 +27,7 @@ from byte_ranges import byte_ranges as model_ranges
 from byte_ranges import fault_of_ranges, great_boxes, small_boxes
 from call_names import CALLS
 from chunk_grids import Grid as Model
-from chunk_grids import first_of, numbers_in, overlap
+from chunk_grids import first_of
 from chunk_keys import Encoding as ModelKeys
 from chunk_plans import changed_chunks, fault_of_numbers
 from chunk_plans import share as share_of_lines
@@ -36,8 +36,9 @@ from faults import seen_parts
 from memory import at_most, used
 from odd_values import Index, Lying, Raising, Whole, misaligned
 from random_arrays import Generator
-from zarrs_chunks import Box, ByteRanges, ChangedChunks, Copies, Counted, Counts, Encoding, Grid, Located, RegionCopies, Source
-from zarrs_chunks import __main__, _boxes, _questions, byte_ranges
+from task_questions import MOST_TO_COUNT, TOO_MANY, answer_of, chunks_met
+from zarrs_chunks import Box, ByteRanges, ChangedChunks, Counted, Destination, Encoding, Grid, Located, Source, Task, TaskCounts
+from zarrs_chunks import __main__, _boxes, _grid, _questions, byte_ranges
 
 PACKAGE = pathlib.Path(zarrs_chunks.__file__).parent
 REGULAR = regular(2, 3)
@@ -58,11 +59,10 @@ def plain(value):
         return {name: plain(part) for name, part in value._asdict().items()}
     if isinstance(value, Counted):
         return {"answer": plain(value.chunk), "comparisons": value.comparisons}
-    if isinstance(value, (ByteRanges, Source)):
+    if isinstance(value, (ByteRanges, Source, Destination, TaskCounts)):
         return {name: plain(part) for name, part in value._asdict().items()}
-    if isinstance(value, (Copies, RegionCopies)):
-        whole = {"whole": value.whole} if isinstance(value, RegionCopies) else {}
-        return {"from": plain(value.sources), "to": {"chunk": plain(value.chunk), "key": value.key}, **whole}
+    if isinstance(value, Task):
+        return {"buffer": plain(value.buffer), "from": plain(value.sources), "to": plain(value.targets)}
     if isinstance(value, ChangedChunks):
         return {what: plain(getattr(value, what)) for what in ("after", "before", "kept")}
     if isinstance(value, dict):
@@ -105,66 +105,46 @@ def planned(asked):
     return parts and {"items": seen_parts(parts), "more": first + len(parts.keys) < parts.in_all}
 
 
-def rechunked(asked):
-    grid, encoding = grid_in(asked), encoding_in(asked)
-    target, more = asked["target"], {name: asked[name] for name in ("chunks", "first") if name in asked}
+def copy_in(asked):
+    """The arguments of a copy, without the encodings, and the encoding of the target."""
+    target = asked["target"]
     try:
-        written = Grid(asked["shape"], target["chunk_grid"]), encoding_in(target)
+        written = Grid(target.get("shape", asked["shape"]), target["chunk_grid"]), encoding_in(target)
     except ValueError as error:
         raise ValueError(f"field `target`: {error}") from error
-    whole = grid.copies(encoding, *written, **more)
-    most = min(asked["items"], 10**6)
-    limited = [plain(item) for item in grid.copies(encoding, *written, **more, most=asked["items"])]
-    page = first_of((plain(item) for item in whole), most)
+    return *written, {name: asked[name] for name in ("subset", "at", "task_chunks", "order") if name in asked}
+
+
+def tasks_in(asked, **more):
+    grid, encoding = grid_in(asked), encoding_in(asked)
+    target, target_encoding, copy = copy_in(asked)
+    return grid.tasks(encoding, target, target_encoding, **copy, **more)
+
+
+def tasked(asked):
+    first = {name: asked[name] for name in ("first",) if name in asked}
+    page = first_of((plain(task) for task in tasks_in(asked, **first)), min(asked["items"], 10**6))
+    limited = [plain(task) for task in tasks_in(asked, **first, most=asked["items"])]
     return page if limited == page["items"] else f"{limited} with `most`"
 
 
 def counted(asked):
-    """The counts, and the first chunks of the share, where they can be gone through."""
-    grid, encoding, target = grid_in(asked), encoding_in(asked), asked["target"]
-    try:
-        written = Grid(asked["shape"], target["chunk_grid"]), encoding_in(target)
-    except ValueError as error:
-        raise ValueError(f"field `target`: {error}") from error
-    chunks, share = asked.get("chunks"), asked.get("share", [0, 1])
-    counts = grid.counts(written[0], chunks)._asdict()
-    items = itertools.islice(grid.copies(encoding, *written, chunks, share=share), 3) if may_list(asked) else None
-    return {**counts, "share": items and [copies.chunk for copies in items]}
-
-
-def target_of(asked):
-    """The array that a region goes to: its grid and its encoding."""
-    target = asked["target"]
-    try:
-        return Grid(target["shape"], target["chunk_grid"]), encoding_in(target)
-    except ValueError as error:
-        raise ValueError(f"field `target`: {error}") from error
-
-
-def copied_of_region(asked):
-    grid, encoding = grid_in(asked), encoding_in(asked)
-    written, more = target_of(asked), {name: asked[name] for name in ("at", "first") if name in asked}
-    whole = grid.copies_of_region(encoding, *written, asked["subset"], **more)
-    limited = [plain(item) for item in grid.copies_of_region(encoding, *written, asked["subset"], **more, most=asked["items"])]
-    page = first_of((plain(item) for item in whole), min(asked["items"], 10**6))
-    return page if limited == page["items"] else f"{limited} with `most`"
-
-
-def counted_of_region(asked):
+    """The counts, and the first tasks of the share, if they can be gone through."""
     grid, _encoding = grid_in(asked), encoding_in(asked)
-    return grid.counts_of_region(target_of(asked)[0], asked["subset"], asked.get("at"))._asdict()
+    target, _target_encoding, copy = copy_in(asked)
+    counts = plain(grid.task_counts(target, **copy))
+    tasks = tasks_in(asked, share=asked.get("share", [0, 1]))
+    return {**counts, "share": plain([*itertools.islice(tasks, 3)]) if may_list(asked) else None}
 
 
 def may_list(asked):
-    """Whether what is copied into one chunk isn't too long to be given."""
+    """Whether a task isn't too long to be given."""
     return max(asked["shape"], default=0) <= 100
 
 
 def first_of_share(asked, share):
-    """The first chunks of a share, which are those that are written from one number on up to another."""
-    target = Model(asked["target"]["chunk_grid"], asked["shape"])
-    written = Model(asked["chunk_grid"], asked["shape"]).written(target, asked.get("chunks"))
-    return [*itertools.islice(numbers_in(*written), share[0], min(share[1], share[0] + 3))]
+    """The first tasks of a share, from one number on up to another."""
+    return answer_of({**asked, "call": "tasks", "first": share[0], "items": min(share[1] - share[0], 3)})["items"]
 
 
 def decoded(asked):
@@ -190,10 +170,8 @@ METHODS = {
     "chunks_subset": lambda asked: grid_in(asked).chunks_subset(*asked["of"]),
     "chunks_in_array_subset": lambda asked: of_batch(grid_in(asked).chunks_in_array_subset(*asked["of"])),
     "parts": planned,
-    "copies": rechunked,
-    "counts": counted,
-    "copies_of_region": copied_of_region,
-    "counts_of_region": counted_of_region,
+    "tasks": tasked,
+    "task_counts": counted,
     "changed_chunks": lambda asked: grid_in(asked).changed_chunks(asked["resize"]),
     "iter_chunk_indices": walked,
     "iter_chunk_subsets": walked,
@@ -223,13 +201,10 @@ def expected_of(asked, answer):
     for beginning in ("refused: ", "unreadable: "):
         if answer.startswith(beginning):
             return ValueError, answer[len(beginning) :]
-    if call == "counts_of_region":
-        counts = {name: factors for name, factors in json.loads(answer).items() if name != "share"}
-        return {name: None if factors is None else math.prod(factors) for name, factors in counts.items()}
-    if call == "counts":
+    if call == "task_counts":
         counts = json.loads(answer)
         share = counts.pop("share")
-        products = {name: None if factors is None else math.prod(factors) for name, factors in counts.items()}
+        products = {name: None if None in factors else math.prod(factors) for name, factors in counts.items()}
         return {**products, "share": first_of_share(asked, share) if may_list(asked) else None}
     return json.loads(answer)
 
@@ -285,7 +260,7 @@ def beside_models(tally):
             for call, of in (("runs", 0), ("chunk_indices_counted", index)):
                 tally.raises(f"{grid} {call}", ValueError, f"there is no call `{call}`", lambda: getattr(grid, call)(of))
         walks_beside_model(tally, generator, model, grid)
-        copies_beside_model(tally, generator, (model, model_keys), (grid, encoding))
+        tasks_beside_model(tally, generator, model, keys)
 
 
 def of_model(call):
@@ -297,7 +272,7 @@ def of_model(call):
 
 def walks_beside_model(tally, generator, model, grid):
     """Thirty items of each walk, from its beginning and from some chunk on, which is counted with those that have no box."""
-    in_all = int(np.prod(model.grid_shape(), dtype=object))
+    in_all = math.prod(model.grid_shape())
     for first in (0, min(generator.number(max(in_all - 1, 0)), GREATEST - 40)):
         rest, chunk = first, []
         for size in reversed(model.grid_shape()):
@@ -322,28 +297,44 @@ def walks_beside_model(tally, generator, model, grid):
         tally.same(f"{grid} boxes from {first}", (plain(pairs), plain(boxes)), (right, [box for _chunk, box in right]))
 
 
-def copies_beside_model(tally, generator, source, by_package):
-    (model, model_keys), (grid, encoding) = source, by_package
-    kind, keys = generator.random.choice(["regular", "zarrs.regular_bounded", "rectilinear"]), generator.encoding()
-    metadata = generator.grid_over(model.shape, kind)
-    target, target_keys = Model(metadata, model.shape), ModelKeys(keys)
-    chunks = generator.random.choice([None, generator.box_within(target.grid_shape())])
-    if chunks is not None and generator.one_in(9):
-        chunks = [generator.longer_or_shorter(part) for part in chunks]
-    elif most_sources(model, target, chunks) > 2000:
+def tasks_beside_model(tally, generator, model, keys):
+    """The first tasks of the copy of a region, and its counts. A region of an array with great chunks is small."""
+    draw = generator.random
+    sizes = draw.choice([model.shape, [generator.size(False) for _ in model.shape]])
+    kind, target_keys = draw.choice(["regular", "zarrs.regular_bounded", "rectilinear"]), generator.encoding()
+    lengths = [generator.number(min(*pair, draw.choice([40, GREATEST]))) for pair in zip(model.shape, sizes)]
+    start, at = ([generator.number(size - length) for size, length in zip(shape, lengths)] for shape in (model.shape, sizes))
+    asked = {
+        "shape": model.shape, "chunk_grid": model.metadata(), "chunk_key_encoding": keys,
+        "target": {"shape": sizes, "chunk_grid": generator.grid_over(sizes, kind, max(sizes, default=0) > 100), "chunk_key_encoding": target_keys},
+        "subset": [start, lengths], "at": at, "task_chunks": [draw.choice([1, 1, 2, 3, GREATEST]) for _ in sizes], "order": draw.choice(["source", "target"]),
+    }  # fmt: skip
+    if generator.one_in(18):
+        asked["at"] = generator.longer_or_shorter(at)
+    elif generator.one_in(18):
+        asked["task_chunks"] = [number or 1 for number in generator.longer_or_shorter(asked["task_chunks"])]
+    if chunks_of_copy(asked) > 2000:
         return
-    asked = lambda: grid.copies(encoding, Grid(model.shape, metadata), Encoding(keys), chunks, most=4)
-    right = of_model(lambda: [*itertools.islice(model.copies(model_keys, target, target_keys, chunks), 4)])
-    tally.same(f"{grid} copies to {metadata} {chunks}", outcome(lambda: [*asked()]), right)
+    (grid, target), copy = (grid_in(one) for one in (asked, asked["target"])), copy_in(asked)[2]
+    right = of_model(lambda: answer_of({**asked, "call": "tasks", "items": 4})["items"])
+    tally.same(f"{asked} tasks", outcome(lambda: [*tasks_in(asked, most=4)]), right)
+    right = of_model(lambda: products_of(answer_of({**asked, "call": "task_counts"})))
+    tally.same(f"{asked} counts", outcome(lambda: grid.task_counts(target, **copy)), right)
 
 
-def most_sources(model, target, chunks):
-    """How many chunks of the source one of the first chunks of the target is made of, which may be very many."""
-    array = [[0] * len(model.shape), model.shape]
-    written = target.chunks_in_array_subset(*array)
-    box = written if chunks is None else overlap(written, chunks)
-    parts = (target.part(chunk, *array, ModelKeys("v2")) for chunk in itertools.islice(numbers_in(*box), 4))
-    return max((math.prod(model.chunks_in_array_subset(*part["in_subset"])[1]) for part in parts), default=0)
+def products_of(counts):
+    """The counts of an answer, each as a number, or None if a factor is past the greatest."""
+    return {name: None if None in factors else math.prod(factors) for name, factors in counts.items() if name != "share"}
+
+
+def chunks_of_copy(asked):
+    """How many chunks of either array hold some of a region, at most."""
+    arrays = [(asked["shape"], asked["chunk_grid"], asked["subset"][0]), (asked["target"]["shape"], asked["target"]["chunk_grid"], asked["at"])]
+    met = [
+        math.prod(chunks_met(d, first, size) for d, first, size in zip(Model(metadata, shape).dimensions, start, asked["subset"][1]) if size)
+        for shape, metadata, start in arrays
+    ]  # fmt: skip
+    return max(met)
 
 
 # ---- walks
@@ -356,8 +347,8 @@ def pages(tally):
     chunks = [*itertools.product(range(5), range(5))]
     boxes = [((2 * row, 3 * column), (2, 3)) for row, column in chunks]
     kept = _questions._PAGE, _questions._FIRST_ITEMS
-    whole = [*grid.copies(encodings[0], target, encodings[1])]
-    tally.same("chunks of a target", [copies.chunk for copies in whole], [*itertools.product(range(3), range(3))])
+    whole = [*grid.tasks(encodings[0], target, encodings[1])]
+    tally.same("chunks of a target", chunks_of(whole), [*itertools.product(range(3), range(3))])
     try:
         for _questions._PAGE, _questions._FIRST_ITEMS in ((1, 1), (60, 2), (300, 7), (2**18, 64)):
             page = f"{_questions._PAGE} bytes and {_questions._FIRST_ITEMS} items"
@@ -366,8 +357,8 @@ def pages(tally):
                 tally.same(f"boxes by {page}", [*grid.iter_chunk_subsets(first)], boxes[first:])
                 tally.same(f"both by {page}", [*grid.iter_chunk_indices_and_subsets(first)], [*zip(chunks, boxes)][first:])
             for first, most in itertools.product(range(0, 11, 3), (None, 0, 1, 4, GREATEST)):
-                found = [*grid.copies(encodings[0], target, encodings[1], first=first, most=most)]
-                tally.same(f"copies by {page}", found, whole[first:][:most])
+                found = [*grid.tasks(encodings[0], target, encodings[1], first=first, most=most)]
+                tally.same(f"tasks by {page}", found, whole[first:][:most])
     finally:
         _questions._PAGE, _questions._FIRST_ITEMS = kept
     great = Grid([GREATEST] * 2, regular(1, 1))
@@ -376,22 +367,27 @@ def pages(tally):
         tally.same(f"a walk without end from {first}", [*itertools.islice(great.iter_chunk_indices(first), 3)], right)
     tracemalloc.start()
     count = sum(1 for _chunk in itertools.islice(great.iter_chunk_indices(), 10**5))
-    count += sum(1 for _copies in itertools.islice(great.copies(encodings[0], great, encodings[1]), 10**4))
+    count += sum(1 for _task in itertools.islice(great.tasks(encodings[0], great, encodings[1]), 10**4))
     peak = tracemalloc.get_traced_memory()[1]
     tracemalloc.stop()
     tally.same("the memory of long walks", (count, peak < 2**25), (110000, True))
     small_and_large(tally)
 
 
+def chunks_of(tasks):
+    """The one chunk of the target that each task writes."""
+    return [part.chunk for task in tasks for (part,) in [task.targets]]
+
+
 def small_and_large(tally):
-    """Chunks of a target that are made of one chunk stand beside some that are made of very many: a page is cut where it gets too long."""
-    edges = [1] * 3000 + [20000, 20000]
-    target = Grid([43000], grid_metadata("rectangular", [edges]))
-    found = [(copies.chunk[0], len(copies.sources)) for copies in Grid([43000], regular(1)).copies(Encoding("v2"), target, Encoding("v2"))]
-    tally.same("sources of small and of large chunks", found, [*enumerate(edges)])
+    """Tasks that read one chunk stand beside some that read very many: a page is cut where it gets too long."""
+    edges = [1] * 3000 + [15000, 15000]
+    grid, target = Grid([33000], regular(1)), Grid([33000], grid_metadata("rectangular", [edges]))
+    found = [(task.targets[0].chunk[0], len(task.sources)) for task in grid.tasks(Encoding("v2"), target, Encoding("v2"))]
+    tally.same("sources of small and of large tasks", found, [*enumerate(edges)])
 
 
-# ---- rechunkings
+# ---- copies
 
 
 def cut(array, ends, key):
@@ -402,9 +398,9 @@ def cut(array, ends, key):
 
 
 def moved(tally):
-    """Rechunkings of arrays that numpy holds."""
+    """Rechunkings of arrays that numpy holds, by tasks of several chunks, in the order of either array."""
     rng = np.random.default_rng(7)
-    for _ in range(60):
+    for _ in range(90):
         shape = rng.integers(1, 12, rng.integers(0, 4)).tolist()
         array = rng.integers(0, 1000, shape)
         ends = []
@@ -414,42 +410,50 @@ def moved(tally):
         grids = [Grid(shape, grid_metadata("rectangular", [np.diff([0, *places]) for places in cuts])) for cuts in ends]
         source = cut(array, ends[0], lambda chunk: "/".join(["c", *map(str, chunk)]))
         right = cut(array, ends[1], lambda chunk: ".".join(map(str, chunk)) or "0")
-        written = {}
-        for copies in grids[0].copies(Encoding("default"), grids[1], Encoding("v2")):
-            chunk = np.full(right[copies.key].shape, -1)
-            for part in copies.sources:
-                read, put = (tuple(slice(s, s + n) for s, n in zip(*box)) for box in (part.in_chunk, part.in_target))
-                chunk[put] = source[part.key][read]
-            written[copies.key] = chunk
-        tally.same(f"keys of {grids}", [*written], [*right])
+        written, copy = {}, {"task_chunks": rng.integers(1, 4, len(shape)), "order": str(rng.choice(["source", "target"]))}
+        for task in grids[0].tasks(Encoding("default"), grids[1], Encoding("v2"), **copy):
+            buffer = np.full(task.buffer, -1)
+            for part in task.sources:
+                buffer[slices(part.in_buffer)] = source[part.key][slices(part.in_chunk)]
+            for part in task.targets:
+                if part.key not in written:
+                    written[part.key] = np.full(part.shape, -1)
+                written[part.key][slices(part.in_chunk)] = buffer[slices(part.in_buffer)]
+                tally.same("whole chunks have their shape", part.whole, part.in_chunk.shape == part.shape)
+        tally.same(f"keys of {grids}", {*written}, {*right})
         tally.same(f"elements of {grids}", all((written[key] == right[key]).all() for key in right), True)
+
+
+def slices(box):
+    return tuple(slice(start, start + size) for start, size in zip(*box))
 
 
 def shares(tally):
     encodings = Encoding("default"), Encoding("v2")
     grid, target = Grid([9, 14], REGULAR), Grid([9, 14], regular(2, 5))
-    for chunks in (None, ([1, 1], [9, 1]), ([9, 0], [1, 1]), ([0, 0], [0, 3])):
-        rows, columns = (range(5), range(3)) if chunks is None else (range(s, min(s + n, most)) for s, n, most in zip(*chunks, (5, 3)))
-        right = [*itertools.product(rows, columns)]
-        for tasks in (1, 2, 3, 4, 7, 15, 40):
-            for task in range(tasks):
-                found = [copies.chunk for copies in grid.copies(*encodings[:1], target, encodings[1], chunks, share=(task, tasks))]
-                tally.same(f"the share {task} of {tasks} of {chunks}", found, [right[line] for line in share_of_lines(len(right), task, tasks)])
+    for subset in (None, ([2, 5], [7, 5]), ([1, 3], [3, 8]), ([0, 0], [0, 3])):
+        for copy in ({}, {"task_chunks": [2, 1]}, {"order": "source"}, {"order": "source", "task_chunks": [1, 3]}):
+            copy |= {} if subset is None else {"subset": subset, "at": subset[0]}
+            right = [*grid.tasks(encodings[0], target, encodings[1], **copy)]
+            for workers in (1, 2, 3, 4, 7, 15, 40):
+                for worker in range(workers):
+                    found = [*grid.tasks(encodings[0], target, encodings[1], **copy, share=(worker, workers))]
+                    tally.same(f"the share {worker} of {workers} of {copy}", found, [right[line] for line in share_of_lines(len(right), worker, workers)])
     none = Grid([], regular())
-    tally.same("shares of one chunk", [len([*none.copies(encodings[0], none, encodings[1], share=(task, 2))]) for task in range(2)], [0, 1])
-    # More chunks than a number counts.
+    tally.same("shares of one task", [len([*none.tasks(encodings[0], none, encodings[1], share=(worker, 2))]) for worker in range(2)], [0, 1])
+    # More tasks than a number counts.
     great = Grid([GREATEST] * 2, regular(1, 1))
-    asked = lambda **more: great.copies(encodings[0], great, encodings[1], **more)
-    for task in (0, 1, 2**63, GREATEST - 2, GREATEST - 1):
-        right = [divmod(3 * task + number, GREATEST) for number in range(3)]
-        found = [copies.chunk for copies in asked(chunks=([0, 0], [3, GREATEST]), share=(task, GREATEST))]
-        tally.same(f"the share {task} of very many", found, right)
-        beginning = [copies.chunk for copies in itertools.islice(asked(share=[task, np.uint64(GREATEST)]), 3)]
-        tally.same(f"the share {task} of all", beginning, [(task, number) for number in range(3)])
+    asked = lambda subset=None, **more: great.tasks(encodings[0], great, encodings[1], subset, **more)
+    for worker in (0, 1, 2**63, GREATEST - 2, GREATEST - 1):
+        right = [divmod(3 * worker + number, GREATEST) for number in range(3)]
+        found = chunks_of(asked(([0, 0], [3, GREATEST]), share=(worker, GREATEST)))
+        tally.same(f"the share {worker} of very many", found, right)
+        beginning = chunks_of(itertools.islice(asked(share=[worker, np.uint64(GREATEST)]), 3))
+        tally.same(f"the share {worker} of all", beginning, [(worker, number) for number in range(3)])
     row = Grid([GREATEST], regular(1))
-    found = [copies.chunk for copies in row.copies(encodings[0], row, encodings[1], share=(GREATEST - 1, GREATEST))]
-    tally.same("the last share of as many chunks as there are numbers", found, [(GREATEST - 1,)])
-    wrong = "share: the number of a task, counted from 0, is less than how many tasks there are"
+    found = chunks_of(row.tasks(encodings[0], row, encodings[1], share=(GREATEST - 1, GREATEST)))
+    tally.same("the last share of as many tasks as there are numbers", found, [(GREATEST - 1,)])
+    wrong = "share: the number of a worker, counted from 0, is less than how many workers there are"
     for share in ((1, 1), (0, 0), (5, 2)):
         tally.raises(f"the share {share}", ValueError, wrong, lambda: asked(share=share))
     beside = "share: it is given in place of `first` and `most`, and not beside them"
@@ -459,60 +463,102 @@ def shares(tally):
         found = outcome(lambda: type(asked(share=share)))
         tally.same(f"{share!r} as a share", share is None or found[0] in (TypeError, ValueError) and found[1].startswith("share: "), True)
     slabs(tally)
+    cut_shares(tally)
     of_program(tally)
 
 
+def cut_shares(tally):
+    """Shares whose tasks have greater numbers than can be asked for are shares of parts of the region. Here 7 is the greatest number."""
+    generator, encodings = Generator(13), (Encoding("default"), Encoding("v2"))
+    kept = _boxes.GREATEST, _grid.GREATEST
+    for kind, other in itertools.product(["regular", "zarrs.regular_bounded", "rectangular", "rectilinear"], repeat=2):
+        for _ in range(6):
+            shape = [generator.number(12) for _ in range(generator.random.randint(1, 3))]
+            grid, target = (Grid(shape, generator.grid_over(shape, name)) for name in (kind, other))
+            lengths = [generator.number(size) for size in shape]
+            start, at = ([generator.number(size - length) for size, length in zip(shape, lengths)] for _ in range(2))
+            each, order = [generator.random.randint(1, 3) for _ in shape], generator.random.choice(["source", "target"])
+            asked = lambda **more: [*grid.tasks(encodings[0], target, encodings[1], (start, lengths), at, task_chunks=each, order=order, **more)]
+            right, workers = asked(), generator.random.randint(1, 5)
+            try:
+                _boxes.GREATEST, _grid.GREATEST = 7, 7
+                found = [asked(share=(worker, workers)) for worker in range(workers)]
+            finally:
+                _boxes.GREATEST, _grid.GREATEST = kept
+            of_shares = [[right[line] for line in share_of_lines(len(right), worker, workers)] for worker in range(workers)]
+            tally.same(f"shares of {grid} to {target} from {start}, {lengths} to {at}, by {each} of the {order}", found, of_shares)
+
+
 def counts(tally):
-    """The counts of rechunkings beside what is counted in their items, and beside arithmetic where there are very many."""
+    """Counts beside what is counted in the tasks, and beside arithmetic if there are very many."""
     generator, encodings = Generator(11), (Encoding("default"), Encoding("v2"))
     kinds = ["regular", "zarrs.regular_bounded", "rectangular", "rectilinear"]
     for round_, (one, other) in itertools.product(range(12), itertools.product(kinds, repeat=2)):
         shape = [generator.random.randrange(round_ + 3) for _ in range(generator.random.randrange(4))]
         grid, target = (Grid(shape, generator.grid_over(shape, kind)) for kind in (one, other))
-        chunks = generator.random.choice([None, generator.box_within(target.grid_shape)])
-        items = [*grid.copies(encodings[0], target, encodings[1], chunks)]
-        sources = [source for item in items for source in item.sources]
-        right = Counts(
-            copies=len(sources), elements=sum(math.prod(source.in_chunk.shape) for source in sources),
-            largest_line=max((len(item.sources) for item in items), default=0), lines=len(items), source_chunks=len({source.chunk for source in sources}),
+        subset = generator.random.choice([None, generator.box_within(shape)])
+        copy = {"task_chunks": [generator.random.randint(1, 3) for _ in shape], "order": generator.random.choice(["source", "target"])}
+        copy |= {} if subset is None else {"subset": subset, "at": subset[0]}
+        tasks = [*grid.tasks(encodings[0], target, encodings[1], **copy)]
+        buffers = [math.prod(task.buffer) for task in tasks]
+        right = TaskCounts(
+            chunks_read=sum(len(task.sources) for task in tasks), chunks_written=sum(len(task.targets) for task in tasks),
+            elements_decoded=sum(math.prod(part.shape) for task in tasks for part in task.sources), elements_moved=sum(buffers),
+            largest_task=max(buffers, default=0), tasks=len(tasks),
         )  # fmt: skip
-        tally.same(f"counts of {grid} into {target} {chunks}", grid.counts(target, chunks), right)
+        tally.same(f"counts of {grid} into {target} {copy}", grid.task_counts(target, **copy), right)
     # Chunks of 3 into chunks of 2, along 2^24 + 2^23 of the first: of three of the second two lie within one of the first, and one in two.
     size = 3 * 2**24
     grid, target = Grid([size] * 3, regular(3, 3, 3)), Grid([size] * 3, regular(2, 3, size))
-    right = Counts(2**73, size**3, 2**25, size // 2 * (size // 3), (size // 3) ** 3)
-    tally.same("counts past 2^24 chunks", grid.counts(target), right)
-    listed = {"name": "rectilinear", "configuration": {"kind": "inline", "chunk_shapes": [[[1, 2**20 + 1]]]}}
-    right = Counts(None, 2**20 + 1, None, 2**20 + 1, 2**19 + 1)
-    tally.same("counts past 2^20 listed chunks", Grid([2**20 + 1], regular(2)).counts(Grid([2**20 + 1], listed)), right)
-    row = grid.counts(target, ([0, 0, 0], [2**24, 7, 1]))
+    tasks = size // 2 * (size // 3)
+    right = TaskCounts(2**73, tasks, 27 * 2**73, size**3, 6 * size, tasks)
+    tally.same("counts past 2^24 chunks", grid.task_counts(target), right)
     along = 2**24 + 2**24 // 3
-    right = Counts(along * 7 * 2**24, 2**25 * 21 * size, 2 * 2**24, 7 * 2**24, ((2**25 - 1) // 3 + 1) * 7 * 2**24)
-    tally.same("counts of 2^24 chunks", row, right)
+    read, tasks = along * 7 * 2**24, 7 * 2**24
+    right = TaskCounts(read, tasks, 27 * read, 2**25 * 21 * size, 6 * size, tasks)
+    tally.same("counts of 2^24 chunks", grid.task_counts(target, ([0, 0, 0], [2**25, 21, size])), right)
     great = Grid([GREATEST], regular(2**63))
-    tally.same("counts up to the greatest number", great.counts(Grid([GREATEST], regular(2**62 + 1))), Counts(5, GREATEST, 2, 4, 2))
-    tally.same("counts without dimensions", Grid([], regular()).counts(Grid([], regular())), Counts(1, 1, 1, 1, 1))
+    right = TaskCounts(5, 4, None, GREATEST, 2**62 + 1, 4)
+    tally.same("counts up to the greatest number", great.task_counts(Grid([GREATEST], regular(2**62 + 1))), right)
+    tally.same("counts without dimensions", Grid([], regular()).task_counts(Grid([], regular())), TaskCounts(1, 1, 1, 1, 1, 1))
+    many = MOST_TO_COUNT + 1
+    source, listed = Grid([many], regular(2)), Grid([many], grid_metadata("rectilinear", [[[1, many]]]))
+    tally.raises("counts past 2^20 listed chunks", ValueError, TOO_MANY, lambda: source.task_counts(listed))
+    last = source.tasks(encodings[0], listed, encodings[1], share=(many - 1, many))
+    tally.same("tasks past 2^20 listed chunks", chunks_of(last), [(many - 1,)])
     grid = Grid([5, 7], REGULAR)
-    tally.raises("counts into another array", ValueError, "the source and the target have different array shapes", lambda: grid.counts(Grid([5], regular(2))))
-    tally.raises("counts into no grid", TypeError, "target: a Grid is wanted, and not a int", lambda: grid.counts(3))
-    tally.raises("counts of a shorter box", ValueError, "the box of chunks: incompatible dimensionality 1, expected 2", lambda: grid.counts(grid, ([0], [1])))
+    lengths = "incompatible dimensionality 1, expected 2"
+    tally.raises("counts into another array", ValueError, f"the target's array: {lengths}", lambda: grid.task_counts(Grid([5], regular(2))))
+    tally.raises("counts into no grid", TypeError, "target: a Grid is wanted, and not a int", lambda: grid.task_counts(3))
+    tally.raises("counts of a shorter region", ValueError, f"the region: {lengths}", lambda: grid.task_counts(grid, ([0], [1])))
+    tally.raises("counts of tasks of shorter groups", ValueError, f"the chunks a task: {lengths}", lambda: grid.task_counts(grid, task_chunks=[2]))
     counts_of_program(tally)
 
 
+def documents_of_copies(seed):
+    """Copies between arrays of two kinds of grid, as documents of `chunkplan`, which are questions too."""
+    generator = Generator(seed)
+    draw = generator.random
+    for _ in range(60):
+        shape = [draw.randrange(40) for _ in range(draw.randrange(4))]
+        stored = [{"chunk_grid": generator.grid_over(shape, name), "chunk_key_encoding": generator.encoding()}
+                  for name in draw.sample(["regular", "zarrs.regular_bounded", "rectilinear"], 2)]  # fmt: skip
+        asked = {"shape": shape, **stored[0], "target": stored[1]}
+        if draw.randrange(2):
+            box = generator.box_within(shape)
+            asked |= {"target": {"shape": shape, **stored[1]}, "subset": box, "at": box[0]}
+        yield {**asked, "task_chunks": [draw.randint(1, 3) for _ in shape], "order": draw.choice(["source", "target"])}
+
+
 def counts_of_program(tally):
-    """Compares counts with the tasks of `chunkplan`, if the program was built. A task writes one chunk, and reads one for each copy."""
+    """Compares counts with those of `chunkplan`, if the program was built."""
     if not CHUNKPLAN.exists():
         return
-    generator = Generator(9)
-    for _ in range(60):
-        shape = [generator.random.randrange(60) for _ in range(generator.random.randrange(4))]
-        grids = [generator.grid_over(shape, name) for name in generator.random.sample(["regular", "zarrs.regular_bounded", "rectilinear"], 2)]
-        stored = [{"chunk_grid": grid, "chunk_key_encoding": "v2"} for grid in grids]
-        ended = subprocess.run([CHUNKPLAN], input=json.dumps({"shape": shape, **stored[0], "target": stored[1], "counts": True}).encode(), capture_output=True)
+    for asked in documents_of_copies(9):
+        ended = subprocess.run([CHUNKPLAN], input=json.dumps({**asked, "counts": True}).encode(), capture_output=True)
         (stage,) = json.loads(ended.stdout)["stages"]
-        counts = Grid(shape, grids[0]).counts(Grid(shape, grids[1]))
-        found = {"chunks_read": counts.copies, "chunks_written": counts.lines, "elements_moved": counts.elements, "tasks": counts.lines}
-        tally.same(f"counts of {shape} from {grids[0]} into {grids[1]}", found, {name: stage[name] for name in found})
+        target, _encoding, copy = copy_in(asked)
+        tally.same(f"counts of {asked}", plain(grid_in(asked).task_counts(target, **copy)), {name: stage[name] for name in TaskCounts._fields})
 
 
 def slabs(tally):
@@ -538,25 +584,14 @@ def of_program(tally):
     if not CHUNKPLAN.exists():
         print("no share was compared with those of chunkplan: the program isn't built", flush=True)
         return
-    generator = Generator(8)
-    for _ in range(60):
-        shape = [generator.random.randrange(30) for _ in range(generator.random.randrange(4))]
-        stored = [{"chunk_grid": generator.grid_over(shape, name), "chunk_key_encoding": generator.encoding()} for name in ("regular", "rectilinear")]
-        tasks = generator.random.choice([1, 2, 3, 7, 50])
-        task = generator.random.randrange(tasks)
-        document = {"shape": shape, **stored[0], "target": stored[1], "share": [task, tasks]}
-        ended = subprocess.run([CHUNKPLAN], input=json.dumps(document).encode(), capture_output=True)
-        lines = [group_of(json.loads(line)) for line in ended.stdout.splitlines()]
-        (grid, encoding), (target, target_encoding) = ((Grid(shape, one["chunk_grid"]), Encoding(one["chunk_key_encoding"])) for one in stored)
-        found = [plain(copies) for copies in grid.copies(encoding, target, target_encoding, share=(task, tasks))]
-        tally.same(f"{document} by chunkplan", (found, ended.returncode), (lines, 0))
-
-
-def group_of(line):
-    """What goes into the one chunk that a task of a rechunking writes: its buffer has the elements of the chunk, from the first one on."""
-    (to,) = line["to"]
-    sources = [{**{name: piece[name] for name in ("chunk", "in_chunk", "key")}, "in_target": piece["in_buffer"]} for piece in line["from"]]
-    return {"from": sources, "to": {name: to[name] for name in ("chunk", "key")}}
+    draw = Generator(8).random
+    for asked in documents_of_copies(8):
+        workers = draw.choice([1, 2, 3, 7, 50])
+        share = [draw.randrange(workers), workers]
+        ended = subprocess.run([CHUNKPLAN], input=json.dumps({**asked, "share": share}).encode(), capture_output=True)
+        lines = [{name: line[name] for name in ("buffer", "from", "to")} for line in map(json.loads, ended.stdout.splitlines())]
+        found = [plain(task) for task in tasks_in(asked, share=share)]
+        tally.same(f"{asked} by chunkplan", (found, ended.returncode), (lines, 0))
 
 
 # ---- selections
@@ -1039,12 +1074,14 @@ def values(tally):
         tally.same(f"lists as {what}", found, right)
         kinds = {type(number) for part in (found[0], found[1], found[4].chunk, found[4].element, found[6].start, found[6].shape) for number in part}
         tally.same(f"the types of answers to {what}", (kinds, type(found[2]), type(found[4].key)), ({int}, bool, str))
-    copied = lambda chunks=None, **more: grid.copies(encoding, target, encoding, chunks, **more)
+    copied = lambda subset=None, at=None, **more: grid.tasks(encoding, target, encoding, subset, at, **more)
     singles = {
         "chunk": [grid.chunk_shape, grid.chunk_origin, grid.chunk_indices_inbounds],
         "index": [grid.array_indices_inbounds, lambda value: grid.locate(encoding, value), rectilinear.chunk_indices_counted],
         "start": [lambda value: grid.chunks_subset(value, [1, 1])], "shape": [lambda value: grid.chunks_subset([1, 1], value)],
-        "chunks": [lambda value: copied((value, [1, 1])), lambda value: copied(([0, 0], value))],
+        "subset": [lambda value: copied((value, [1, 1])), lambda value: copied(([0, 0], value)), lambda value: grid.task_counts(target, (value, [1, 1]))],
+        "at": [lambda value: copied(([0, 0], [1, 1]), value), lambda value: grid.task_counts(target, ([0, 0], [1, 1]), value)],
+        "task_chunks": [lambda value: copied(task_chunks=value), lambda value: grid.task_counts(target, task_chunks=value)],
     }  # fmt: skip
     numbers = {
         "dimension": [rectilinear.runs], "first": [grid.iter_chunk_indices, grid.iter_chunk_subsets, grid.iter_chunk_indices_and_subsets],
@@ -1068,19 +1105,35 @@ def values(tally):
             tally.raises(f"{name} as a float", TypeError, f"{name}: 'float' object cannot be interpreted as an integer", lambda: call(1.0))
             tally.same(f"{name} as another", [outcome(lambda: call(value))[0] for value in ("1", [1], np.zeros(2))], [TypeError] * 3)
     lengths = "incompatible dimensionality 1, expected 2"
-    for chunks, words in ((([0], [1]), f"the box of chunks: {lengths}"), (([0, 0], [1]), lengths)):
-        tally.raises(f"the chunks {chunks}, at once", ValueError, words, lambda: copied(chunks))
-    for chunks in (3, [], [[0, 0]], [[0, 0], [1, 1], [2, 2]], "ab", {1, 2}, Raising(ValueError("own"))):
-        found = outcome(lambda: copied(chunks))
-        tally.same(f"{chunks!r} as a box of chunks", (found[0] in (TypeError, ValueError), found[1].startswith("chunks: ")), (True, True))
+    for subset, words in ((([0], [1]), f"the region: {lengths}"), (([0, 0], [1]), "incompatible dimensionality 1, expected 2")):
+        tally.raises(f"the region {subset}, at once", ValueError, words, lambda: copied(subset))
+    for subset in (3, [], [[0, 0]], [[0, 0], [1, 1], [2, 2]], "ab", {1, 2}, Raising(ValueError("own"))):
+        found = outcome(lambda: copied(subset))
+        tally.same(f"{subset!r} as a region", (found[0] in (TypeError, ValueError), found[1].startswith("subset: ")), (True, True))
+    past = "the region has to end within the source's array"
+    tally.raises("a region past the array, at once", ValueError, past, lambda: copied(([0, 0], [5, 8])))
+    tally.raises("a share of it, at once", ValueError, past, lambda: copied(([0, 0], [5, 8]), share=(0, 2)))
+    moved = "the region, moved to the index to begin at, has to end within the target's array"
+    tally.raises("an index too far on, at once", ValueError, moved, lambda: copied(([0, 0], [5, 7]), [1, 0]))
+    tally.raises("groups of another length, at once", ValueError, f"the chunks a task: {lengths}", lambda: copied(task_chunks=[1]))
+    few = "task_chunks: a task takes 1 chunk or more along each dimension"
+    for call in (copied, lambda **more: grid.task_counts(target, **more)):
+        tally.raises("groups of no chunk", ValueError, few, lambda: call(task_chunks=[1, 0]))
+        for order in ("", "Source", "targets", "\ud800"):
+            tally.raises(f"{order!r} as an order", ValueError, "order: it is `target` or `source`", lambda: call(order=order))
+        for order in (None, 1, b"source", ["source"]):
+            tally.raises(f"{order!r} as an order", TypeError, f"order: a text is wanted, and not a {type(order).__name__}", lambda: call(order=order))
+    tally.same("an order of numpy's", [*copied(order=np.str_("source"))], [*copied(order="source")])
     tally.raises("a name for an encoding", TypeError, "encoding: an Encoding is wanted, and not a str", lambda: grid.locate("default", [1, 1]))
     for name, given in {"encoding": ("v2", target, encoding), "target_encoding": (encoding, target, "v2")}.items():
-        tally.raises(f"a name for {name}", TypeError, f"{name}: an Encoding is wanted, and not a str", lambda: grid.copies(*given))
-    tally.raises("a dict for a target", TypeError, "target: a Grid is wanted, and not a dict", lambda: grid.copies(encoding, REGULAR, encoding))
-    other = "the source and the target have different array shapes"
-    for shape in ([5, 8], [5], [5, 7, 1]):
+        tally.raises(f"a name for {name}", TypeError, f"{name}: an Encoding is wanted, and not a str", lambda: grid.tasks(*given))
+    tally.raises("a dict for a target", TypeError, "target: a Grid is wanted, and not a dict", lambda: grid.tasks(encoding, REGULAR, encoding))
+    refused = {(5,): f"the target's array: {lengths}", (5, 7, 1): "the target's array: incompatible dimensionality 3, expected 2", (5, 6): moved}
+    for shape, words in refused.items():
         apart = Grid(shape, regular(*shape))
-        tally.raises(f"a target of {shape}", ValueError, other, lambda: grid.copies(encoding, apart, encoding))
+        tally.raises(f"a target of {shape}", ValueError, words, lambda: grid.tasks(encoding, apart, encoding))
+    larger = Grid([5, 8], regular(5, 4))
+    tally.same("a larger target", [task.targets[0].whole for task in grid.tasks(encoding, larger, encoding)], [True, False])
     for walk, count in ((grid.iter_chunk_indices(), 9), (grid.iter_chunk_subsets(), 9), (copied(), 4)):
         tally.same("a walk is an iterator", (iter(walk) is walk, len([*walk]), [*walk]), (True, count, []))
     made = [grid.box(...), grid.locate(encoding, [1, 1]), next(copied()), rectilinear.chunk_indices_counted([1, 1])]
@@ -1091,11 +1144,11 @@ def little_memory(tally):
     """After a call that was out of memory everything answers as before."""
     source, target, encoding = Grid([10**6], regular(1)), Grid([10**6], regular(10**6)), Encoding("default")
     listed = Grid([10**6], grid_metadata("rectilinear", [[1] * 10**6]))
-    for call in (lambda: next(source.copies(encoding, target, encoding)), listed.written_metadata, lambda: listed.chunk_origin([10**7])):
+    for call in (lambda: next(source.tasks(encoding, target, encoding)), listed.written_metadata, lambda: listed.chunk_origin([10**7])):
         with at_most(used() + 2**20):
             found = outcome(call)
         tally.same("a call under little memory", found[0], MemoryError)
-        tally.same("the next one", (source.chunk_origin([4]), next(source.copies(encoding, source, encoding)).key), ((4,), "c/0"))
+        tally.same("the next one", (source.chunk_origin([4]), next(source.tasks(encoding, source, encoding)).targets[0].key), ((4,), "c/0"))
     tally.same("with enough of it", (listed.chunk_origin([10**7]), listed.runs(0)), (None, 1))
 
 

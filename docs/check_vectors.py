@@ -12,16 +12,16 @@ import sys
 
 sys.path.insert(0, str(pathlib.Path(__file__).resolve().parent.parent / "tools"))
 from built import CRATES, vectors  # noqa: E402
-from call_names import CALLS, OF_BOX, OF_BYTES, OF_CHUNK, OF_INDEX, OF_NOTHING, OF_RECTILINEAR, OF_RESIZE, OF_TARGET, WALKS  # noqa: E402
+from call_names import CALLS, OF_BOX, OF_BYTES, OF_CHUNK, OF_INDEX, OF_NOTHING, OF_RECTILINEAR, OF_RESIZE, OF_TASKS, WALKS  # noqa: E402
 from extensions import GRIDS  # noqa: E402
 
 OF_A_LIST = OF_CHUNK + OF_INDEX
-OF_LISTS = OF_BOX + OF_TARGET
+OF_LISTS = OF_BOX + OF_TASKS
 # From this number on, twice a number is past the greatest.
 GREAT = 2**63
 ENDS, ZERO, NONE = "at the ends of numbers", "along a size of 0", "without dimensions"
 LENGTH = "with a list of a wrong length"
-OF_LENGTH = ("refused: incompatible dimensionality", "refused: the box of chunks: incompatible dimensionality", "false", "refused: field `resize`: ")
+OF_LENGTH = ("refused: incompatible dimensionality", "refused: the region: incompatible dimensionality", "false", "refused: field `resize`: ")
 
 
 def is_great(value):
@@ -63,7 +63,7 @@ def points(question, answer):
     """Where a question asks its call, if the answer is one of the call's."""
     call = question.get("call")
     shape = question["chunk_shape" if call in OF_BYTES else "shape"]
-    of = question.get("chunks" if call in OF_TARGET else "resize" if call in OF_RESIZE else "of")
+    of = question.get("subset" if call in OF_TASKS else "resize" if call in OF_RESIZE else "of")
     if has_a_wrong_length(call, of, shape) and answer.startswith(OF_LENGTH):
         yield LENGTH
     if answer.startswith(("refused: ", "unreadable: ")):

@@ -20,7 +20,6 @@ import argparse
 import collections
 import itertools
 import json
-import math
 import pathlib
 import re
 import sys
@@ -29,15 +28,15 @@ for folder in ("measure", "tools"):
     sys.path.insert(0, str(pathlib.Path(__file__).resolve().parent.parent / folder))
 from built import builds  # noqa: E402
 from byte_ranges import byte_ranges, expanded, fault_of_ranges, great_boxes, small_boxes  # noqa: E402
-from call_names import CALLS, OF_BOX, OF_BYTES, OF_CHUNK, OF_INDEX, OF_KEYS, OF_RECTILINEAR, OF_REGION, OF_RESIZE  # noqa: E402
-from call_names import OF_TARGET, WALKS, WITH_ENCODING  # noqa: E402
-from chunk_grids import Grid, check_box, first_of  # noqa: E402
+from call_names import CALLS, OF_BOX, OF_BYTES, OF_CHUNK, OF_INDEX, OF_KEYS, OF_RECTILINEAR, OF_RESIZE, OF_TASKS  # noqa: E402
+from call_names import WALKS, WITH_ENCODING  # noqa: E402
+from chunk_grids import Grid, first_of  # noqa: E402
 from chunk_keys import Encoding  # noqa: E402
-from chunk_plans import changed_chunks, changed_chunks_by_numbers, chunks_by_numbers, fault_of_numbers, may_go_through, region, region_by_boxes  # noqa: E402
-from chunk_plans import counts as counts_by_element, counts_of_region  # noqa: E402
+from chunk_plans import changed_chunks, changed_chunks_by_numbers, chunks_by_numbers, fault_of_numbers, may_go_through  # noqa: E402
 from extensions import GREATEST, GRIDS, Refused, regular  # noqa: E402
 from random_arrays import EQUAL, Generator  # noqa: E402
 from runs import run  # noqa: E402
+from task_questions import answer_of  # noqa: E402
 
 MODEL = "the model"
 
@@ -76,57 +75,56 @@ class Asking(Generator):
             question["of"] = self.key(Encoding(encoding), chunk)
             lengths = [len(chunk)] * 4 + [len(chunk) + 1, max(len(chunk) - 1, 0), GREATEST]
             question["dimensionality"] = self.random.choice(lengths)
-        if call in OF_TARGET:
-            question |= self.target(call, shape)
-        if call in OF_REGION:
-            question |= self.region(call, shape)
+        if call in OF_TASKS:
+            question |= self.tasks(call, shape)
         if call in OF_RESIZE:
             question["resize"] = self.longer_or_shorter(shape) if self.one_in(12) else [self.resized(size) for size in shape]
-        if call in WALKS or call in ("parts", "copies", "copies_of_region"):
+        if call in WALKS or call in ("parts", "tasks"):
             question["items"] = self.number(30)
         return self.with_fault(question) if self.one_in(10) else question
 
     def may_ask(self, call, metadata, shape):
-        """Whether the grid has the call, and its answer isn't too long: what is copied into one chunk is given whole."""
+        """Whether the grid has the call, and its answer isn't too long: a task is given whole."""
         is_small = len(shape) <= 2 and max(shape, default=0) <= 40
-        return (call not in OF_RECTILINEAR or metadata["name"] == "rectilinear") and (call not in ("copies", *OF_REGION) or is_small)
+        return (call not in OF_RECTILINEAR or metadata["name"] == "rectilinear") and (call != "tasks" or is_small)
 
-    def target(self, call, shape):
-        """How an array of this shape is to be stored, and perhaps into which chunks, from which number on or which share."""
-        metadata = self.grid_over(shape, self.random.choice(list(GRIDS)), max(shape, default=0) > 40)
-        # So many chunks along a dimension would be gone through by the model, which takes long.
-        while any(count > 2**12 for count in Grid(metadata, shape).grid_shape()):
-            metadata = self.grid_over(shape, self.random.choice(list(GRIDS)), True)
-        members = {"target": {"chunk_grid": metadata, "chunk_key_encoding": self.encoding()}}
+    def tasks(self, call, shape):
+        """A rechunking, or a region and the array that it goes to, seldom one that doesn't fit; perhaps of several chunks a task, in the order of the
+        source, from which number on or which share."""
+        members = self.region(shape) if max(shape, default=0) <= 40 and self.one_in(2) else {"target": self.storage(shape)}
         if self.one_in(2):
-            chunk = self.chunk(Grid(metadata, shape))
-            members["chunks"] = self.box(self.longer_or_shorter(chunk) if self.one_in(8) else chunk)
-        if self.one_in(2) and call == "copies":
+            each = [self.random.choice([1, 2, 3, self.random.randint(1, GREATEST)]) for _ in shape]
+            members["task_chunks"] = [number or 1 for number in self.longer_or_shorter(each)] if self.one_in(12) else each
+        if self.one_in(2):
+            members["order"] = self.random.choice(["source", "target"])
+        if self.one_in(2) and call == "tasks":
             members["first"] = self.number(30)
-        elif self.one_in(2) and call == "counts":
+        elif self.one_in(2) and call == "task_counts":
             of = self.random.choice([1, 2, 3, 7, self.random.randint(1, GREATEST), GREATEST])
             members["share"] = [self.number(of - 1), of]
         return members
 
-    def region(self, call, shape):
-        """Another array, and a box that goes there, seldom one that doesn't lie in either; perhaps where it begins, and from which number on
-        or which share."""
+    def storage(self, shape):
+        """How an array of this shape is to be stored."""
+        metadata = self.grid_over(shape, self.random.choice(list(GRIDS)), max(shape, default=0) > 40)
+        # So many chunks along a dimension would be gone through by the model, which takes long.
+        while any(count > 2**12 for count in Grid(metadata, shape).grid_shape()):
+            metadata = self.grid_over(shape, self.random.choice(list(GRIDS)), True)
+        return {"chunk_grid": metadata, "chunk_key_encoding": self.encoding()}
+
+    def region(self, shape):
+        """Another array, and a box that goes there, seldom one that doesn't lie in either; perhaps where it begins."""
         sizes = [self.size(False) for _ in shape]
         box = self.box_within([min(pair) for pair in zip(shape, sizes)])
         box[0] = [self.random.randint(0, size - count) for size, count in zip(shape, box[1])]
         at = [self.random.randint(0, size - count) for size, count in zip(sizes, box[1])]
         if self.one_in(12):
             sizes = self.longer_or_shorter(sizes)
-        metadata = self.grid_over(sizes, self.random.choice(list(GRIDS)))
-        members = {"target": {"shape": sizes, "chunk_grid": metadata, "chunk_key_encoding": self.encoding()}}
-        members["subset"] = self.box(self.longer_or_shorter(box[0]) if self.one_in(2) else box[0]) if self.one_in(12) else box
+        members = {"target": {"shape": sizes, **self.storage(sizes)}}
+        if not self.one_in(8):
+            members["subset"] = self.box(self.longer_or_shorter(box[0]) if self.one_in(2) else box[0]) if self.one_in(12) else box
         if not self.one_in(4):
             members["at"] = self.longer_or_shorter(at) if self.one_in(12) else at
-        if self.one_in(2) and call == "copies_of_region":
-            members["first"] = self.number(9)
-        elif self.one_in(2) and call == "counts_of_region":
-            of = self.random.choice([1, 2, 3, 7, GREATEST])
-            members["share"] = [self.number(of - 1), of]
         return members
 
     def resized(self, size):
@@ -229,16 +227,10 @@ def model_answer(question):
         return encoding[0].chunk(of, question["dimensionality"])
     if call in OF_BYTES:
         return model_ranges(question)
-    if call in OF_TARGET:
-        target, target_encoding = model_target(question)
-        if call == "counts":
-            return model_counts(grid, target, question.get("chunks"), question.get("share", [0, 1]))
-        groups = grid.copies(*encoding, target, target_encoding, question.get("chunks"))
-        return first_of(itertools.islice(groups, question.get("first", 0), None), question["items"])
+    if call in OF_TASKS:
+        return answer_of(question)
     if call in OF_RESIZE:
         return model_resize(grid, question)
-    if call in OF_REGION:
-        return model_region(question, (grid, *encoding), model_target(question))
     arguments = of if call in OF_BOX else [of] if "of" in question else []
     found = getattr(grid, call)(*arguments, *encoding)
     return first_of(found, question["items"]) if "items" in question and found is not None else found
@@ -254,29 +246,6 @@ def model_ranges(question):
     return found
 
 
-def model_region(question, source, target):
-    """Copies chunk by chunk, and where the chunks are small element by element too, which has to be the same."""
-    box, shape = question["subset"], source[0].shape
-    check_box(*box)
-    at = question.get("at", [0] * len(box[0]))
-    for what, given in (("the region", box[0]), ("the target's array", target[0].shape), ("the index to begin at", at)):
-        if len(given) != len(shape):
-            raise Refused(f"{what}: incompatible dimensionality {len(given)}, expected {len(shape)}")
-    if any(first + count > size for first, count, size in zip(*box, shape)):
-        raise Refused("the region has to end within the source's array")
-    if any(first + count > size for first, count, size in zip(at, box[1], target[0].shape)):
-        raise Refused("the region, moved to the index to begin at, has to end within the target's array")
-    if question["call"] == "counts_of_region":
-        return counts_of_region(source[0], target[0], box, at, question.get("share", [0, 1]))
-    lines = [] if 0 in box[1] else [*region_by_boxes(source, target, box, at)]
-    groups = [group_of(line) for line in lines]
-    edges = itertools.chain.from_iterable(chunk["shape"] for line in lines for chunk in (line["to"], *line["from"]))
-    if max(edges, default=0) <= 100:
-        by_element = [] if 0 in box[1] else [group_of(line) for line in region(source, target, box, at)]
-        assert as_text(groups) == as_text(by_element), f"the models differ: {groups} and {by_element}"
-    return first_of(iter(groups[question.get("first", 0) :]), question["items"])
-
-
 def model_resize(grid, question):
     """Three lists of numbers. If the arrays are small, they must have the chunks that are found element by element."""
     shape = question["resize"]
@@ -289,37 +258,6 @@ def model_resize(grid, question):
         fault = fault_of_numbers(found, changed_chunks(grid, resized), len(shape))
         assert fault is None, f"the models differ: {fault}"
     return found
-
-
-def group_of(line):
-    """An item of the answer, of a line of the plan."""
-    sources = [{name: source[name] for name in ("chunk", "in_chunk", "in_target", "key")} for source in line["from"]]
-    return {"from": sources, "to": {name: line["to"][name] for name in ("chunk", "key")}, "whole": line["whole"]}
-
-
-def model_target(question):
-    target = question["target"]
-    shape = target["shape"] if question["call"] in OF_REGION else question["shape"]
-    try:
-        return Grid(target["chunk_grid"], shape), Encoding(target["chunk_key_encoding"])
-    except Refused as refusal:
-        raise Refused(refusal.text and f"field `target`: {refusal.text}") from refusal
-
-
-def model_counts(grid, target, chunks, share):
-    """Counts chunk by chunk, and in small arrays element by element too, which has to be the same."""
-    found = grid.counts(target, chunks, share)
-    if max(grid.shape, default=0) <= 100:
-        by_element = counts_by_element(grid, target, chunks, share)
-        assert as_products(found) == as_products(by_element), f"the models differ: {found} and {by_element}"
-    return found
-
-
-def as_products(counts):
-    """Counts in which the factors say nothing but their product: where nothing is copied, which of them are 0 isn't said."""
-    if 0 not in counts["lines"]:
-        return counts
-    return {name: numbers if name == "share" else math.prod(numbers) for name, numbers in counts.items()}
 
 
 def model_lines(document):
@@ -363,9 +301,6 @@ def agrees(expected, printed):
         found = json.loads(printed)
     except ValueError:
         return False
-    if isinstance(expected, dict) and "source_chunks" in expected:
-        same_members = isinstance(found, dict) and found.keys() == expected.keys()
-        return same_members and as_text(as_products(found)) == as_text(as_products(expected))
     if isinstance(expected, dict) and "comparisons" in expected:
         # The definitions bound the comparisons, and don't count them.
         fewest, most = expected["comparisons"]

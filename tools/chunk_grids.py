@@ -5,7 +5,7 @@ written from those pages alone, not from the sources of this repository nor from
 Python's whole numbers have no greatest one, and edges are gone through one after another.
 """
 import itertools
-import math
+import sys
 
 from extensions import GREATEST, GRIDS, Refused, extension, grid_metadata
 
@@ -220,40 +220,6 @@ class Grid:
             "key": encoding.key(chunk),
         }
 
-    def copies(self, encoding, target, target_encoding, chunks=None):
-        """What is copied into the target's chunks in a box, or into all: a group for each that holds elements of the array,
-        one after another."""
-        array, written = [[0] * len(self.shape), self.shape], self.written(target, chunks)
-        return (self.group(target.part(chunk, *array, target_encoding), encoding) for chunk in numbers_in(*written))
-
-    def written(self, target, chunks=None):
-        """The box of the target's chunks that hold elements of the array, and lie in a box of chunks, where there is one."""
-        written = target.chunks_in_array_subset([0] * len(self.shape), self.shape)
-        if chunks is None:
-            return written
-        check_box(*chunks)
-        if len(chunks[0]) != len(self.shape):
-            raise Refused(f"the box of chunks: incompatible dimensionality {len(chunks[0])}, expected {len(self.shape)}")
-        return overlap(written, chunks)
-
-    def counts(self, target, chunks=None, share=(0, 1)):
-        """How much such a rechunking copies, each count by its factors, and where a share of its groups lies. Where there is
-        no group, which factors are 0 isn't said: here all are."""
-        start, shape = self.written(target, chunks)
-        if 0 in shape:
-            return counts_of([dict.fromkeys(COUNTS, 0) for _ in shape], share)
-        rows = [*zip(self.dimensions, target.dimensions, start, shape)]
-        walked = sum(count for *both, _, count in rows if any(d.listed for d in both))
-        return counts_of([counts_along(*row, walked <= MOST_WALKED) for row in rows], share)
-
-    def group(self, to, encoding):
-        """What is copied into a chunk of the target, which is a part of the array."""
-        sources = [
-            {"chunk": part["chunk"], "in_chunk": part["in_chunk"], "in_target": part["in_subset"], "key": part["key"]}
-            for part in self.parts(*to["in_subset"], encoding)
-        ]
-        return {"from": sources, "to": {"chunk": to["chunk"], "key": to["key"]}}
-
     # Walks.
 
     def iter_chunk_indices(self):
@@ -307,46 +273,6 @@ def check_box(start, shape):
             raise Refused(f"box end exceeds {GREATEST} in dimension {place}")
 
 
-# The counts of a rechunking, and over how many chunks that are written it is walked where edges are listed.
-COUNTS = ["copies", "elements", "largest_line", "lines", "source_chunks"]
-MOST_WALKED = 2**20
-
-
-def counts_along(source, target, first, count, few):
-    """The counts along one dimension, of so many chunks of the target from the first one on: chunk by chunk, if they are
-    few enough; and where both have one edge, by the multiples of either."""
-
-    def reads(start, end):
-        """How many chunks of the source hold the indices from one on up to another."""
-        return source.holder(end - 1) - source.holder(start) + 1
-
-    def end(chunk):
-        return min(target.end(chunk), target.size)
-
-    start, stop = target.start(first), end(first + count - 1)
-    chunks = range(first, first + count)
-    if source.listed or target.listed:
-        each = [reads(target.start(chunk), end(chunk)) for chunk in chunks] if few else None
-        walked = {"copies": each and sum(each), "largest_line": each and max(each)}
-    else:
-        # Each copy begins where a chunk of either begins, and those into a chunk are as many as a common multiple further on.
-        edges = source.first_edge(), target.first_edge()
-        once, other, both = ((stop - 1) // edge - start // edge for edge in (*edges, math.lcm(*edges)))
-        some = {*chunks[: math.lcm(*edges) // edges[1] + 1], chunks[-1]}
-        walked = {"copies": 1 + once + other - both, "largest_line": max(reads(target.start(chunk), end(chunk)) for chunk in some)}
-    return {**walked, "elements": stop - start, "lines": count, "source_chunks": reads(start, stop)}
-
-
-def counts_of(along, share):
-    """The counts of a rechunking by those along each dimension, and the numbers of the first group of a share and of the one
-    behind its last."""
-    factors = {name: [counts[name] for counts in along] for name in COUNTS}
-    in_all, (number, of) = math.prod(factors["lines"]), share
-    ends = [number * in_all // of, (number + 1) * in_all // of]
-    counts = {name: None if None in numbers else numbers for name, numbers in factors.items()}
-    return {**counts, "share": [end if end <= GREATEST else None for end in ends]}
-
-
 def first_of(walk, most):
-    items = list(itertools.islice(walk, most + 1))
+    items = list(itertools.islice(walk, min(most, sys.maxsize - 1) + 1))
     return {"items": items[:most], "more": len(items) > most}

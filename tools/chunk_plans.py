@@ -12,7 +12,7 @@ import math
 import operator
 import sys
 
-from chunk_grids import Grid, counts_of, numbers_in, overlap
+from chunk_grids import Grid, overlap
 from chunk_keys import Encoding
 from extensions import GREATEST, GRIDS, Refused
 from random_arrays import Generator
@@ -98,33 +98,6 @@ def read_by_boxes(grid, encoding, start, shape):
     ])  # fmt: skip
 
 
-def region(source, target, box, at):
-    """The copies of a box of one array, which is a grid with its encoding, to another array, where it begins at an index, by the
-    chunks of that array."""
-    (grid, encoding), (target_grid, target_encoding) = source, target
-
-    def moved():
-        for steps in elements(box[1]):
-            (read, in_source), (written, in_target) = home(grid, sums(box[0], steps)), home(target_grid, sums(at, steps))
-            yield (written, read), in_source, in_target
-
-    held = collections.Counter(home(target_grid, index)[0] for index in elements(target_grid.shape))
-    copies = boxes(moved())
-    read_shape = shapes(grid, [read for (_, read), *_ in copies])
-    written_shape = shapes(target_grid, [written for (written, _), *_ in copies])
-    lines = []
-    for written, group in itertools.groupby(copies, key=lambda copy: copy[0][0]):
-        sources = [
-            {"chunk": list(read), "in_chunk": in_source, "in_target": in_target, "key": encoding.key(read),
-             "shape": read_shape[read]}
-            for (_, read), in_source, in_target in group
-        ]  # fmt: skip
-        to = {"chunk": list(written), "key": target_encoding.key(written), "shape": written_shape[written]}
-        given = sum(math.prod(source["in_target"][1]) for source in sources)
-        lines.append({"from": sources, "to": to, "whole": given == held[written]})
-    return numbered(lines)
-
-
 def tasks(source, target, box, at, each, by_source=False):
     """The plan that copies a box of one array to another array by tasks. A task takes what neighbouring chunks of the target hold of
     the elements, `each` along a dimension, or of the source. It fills its buffer from the source, and writes it to the target."""
@@ -172,8 +145,12 @@ def counts_of_tasks(lines, each, intermediate=None):
 
 def arrays_of(document):
     """Both arrays of a document of a copy: of each its grid and its encoding."""
-    ends = document, {"shape": document["shape"], **document["target"]}
-    return [(Grid(end["chunk_grid"], end["shape"]), Encoding(end["chunk_key_encoding"])) for end in ends]
+    return [array_of(end) for end in (document, {"shape": document["shape"], **document["target"]})]
+
+
+def array_of(end):
+    """An array, as its grid and its encoding."""
+    return Grid(end["chunk_grid"], end["shape"]), Encoding(end["chunk_key_encoding"])
 
 
 def region_asked(document):
@@ -187,7 +164,7 @@ def region_asked(document):
 
 def elements_of_chunks(grid, chunks):
     """The box of the elements of an array that the chunks of a box hold."""
-    (first, count), start, shape = overlap(grid.written(grid), chunks), [], []
+    (first, count), start, shape = overlap(grid.chunks_in_array_subset([0] * len(grid.shape), grid.shape), chunks), [], []
     if 0 in count:
         return grid.empty_box()
     for dimension, number, numbers in zip(grid.dimensions, first, count):
@@ -211,34 +188,16 @@ def beside(lines, target, keys):
     return left + [{"foreign": key} for key in keys if key not in held]
 
 
-def region_by_boxes(source, target, box, at):
-    """The lines of the same plan, one after another, by what each chunk and the region have in common: for arrays of any size."""
-    (grid, encoding), (target_grid, target_encoding) = source, target
-    written = target_grid.chunks_in_array_subset(at, box[1])
-    of = math.prod(written[1])
-    for number, chunk in enumerate(numbers_in(*written)):
-        to = target_grid.part(chunk, at, box[1], target_encoding)
-        steps, size = to["in_subset"]
-        sources = [
-            {"chunk": part["chunk"], "in_chunk": part["in_chunk"], "key": part["key"], "shape": grid.chunk_shape(part["chunk"]),
-             "in_target": [sums(to["in_chunk"][0], part["in_subset"][0]), part["in_subset"][1]]}
-            for part in grid.parts(sums(box[0], steps), size, encoding)
-        ]  # fmt: skip
-        yield {
-            "from": sources, "number": number if number <= GREATEST else None, "of": of if of <= GREATEST else None,
-            "to": {"chunk": chunk, "key": to["key"], "shape": target_grid.chunk_shape(chunk)}, "whole": size == held_by(target_grid, chunk),
-        }  # fmt: skip
-
-
-def tasks_by_boxes(source, target, box, at, each, by_source=False):
-    """The lines of tasks, one after another, by what each group of chunks and the region have in common: for arrays of any size."""
+def tasks_by_boxes(source, target, box, at, each, by_source=False, begin_with=0):
+    """The lines of tasks, one after another from a number on, by what each group of chunks and the region have in common: for arrays of any size."""
     (grid, encoding), (target_grid, target_encoding) = source, target
     grouped, begin = (grid, box[0]) if by_source else (target_grid, at)
     first, count = grouped.chunks_in_array_subset(begin, box[1])
     firsts = [f // k for f, k in zip(first, each)]
     counts = [n and (f + n - 1) // k + 1 - f // k for f, n, k in zip(first, count, each)]
     of = math.prod(counts)
-    for number, group in enumerate(numbers_in(firsts, counts)):
+    for number in itertools.takewhile(of.__gt__, itertools.count(begin_with)):
+        group = sums(firsts, place_of(number, counts))
         along = [*zip(grouped.dimensions, group, each, begin, box[1])]
         starts = [max(d.start(g * k) - b, 0) for d, g, k, b, _ in along]
         buffer = [min(d.start((g + 1) * k) - b, n) - start for start, (d, g, k, b, n) in zip(starts, along)]
@@ -248,6 +207,15 @@ def tasks_by_boxes(source, target, box, at, each, by_source=False):
             "to": [{**as_piece(part, target_grid), "whole": part["in_chunk"][1] == held_by(target_grid, part["chunk"])}
                    for part in target_grid.parts(sums(at, starts), buffer, target_encoding)],
         }  # fmt: skip
+
+
+def place_of(number, counts):
+    """Which place in a box of this shape has a number, where the places are numbered in row-major order."""
+    place = []
+    for count in reversed(counts):
+        number, last = divmod(number, count)
+        place.insert(0, last)
+    return place
 
 
 def as_piece(part, grid):
@@ -395,39 +363,6 @@ def common(box, other):
 
 def sums(numbers, steps):
     return [number + step for number, step in zip(numbers, steps)]
-
-
-def counts(grid, target, chunks=None, share=(0, 1)):
-    """How much a rechunking copies: along each dimension, each index is asked for its chunk here and there."""
-
-    def along(dimension):
-        held = [[d.holder(index) for index in range(d.size)] for d in (target.dimensions[dimension], grid.dimensions[dimension])]
-        moved = [*zip(*held)]
-        if chunks is not None:
-            first, size = (numbers[dimension] for numbers in chunks)
-            moved = [(written, read) for written, read in moved if first <= written < first + size]
-        return counts_along(moved)
-
-    return counts_of([along(dimension) for dimension in range(len(grid.shape))], share)
-
-
-def counts_of_region(grid, target, box, at, share=(0, 1)):
-    """How much the copy of a region copies: each index is asked for its chunk, and so is the one that it goes to."""
-
-    def along(here, there, first, size, begin):
-        return counts_along([(there.holder(begin + step), here.holder(first + step)) for step in range(size)])
-
-    return counts_of([along(*row) for row in zip(grid.dimensions, target.dimensions, *box, at)], share)
-
-
-def counts_along(moved):
-    """The counts along a dimension, of the chunk that each index is written to, and the one that it is read from."""
-    copies = set(moved)
-    lines = collections.Counter(written for written, _ in copies)
-    return {
-        "copies": len(copies), "elements": len(moved), "largest_line": max(lines.values(), default=0), "lines": len(lines),
-        "source_chunks": len({read for _, read in copies}),
-    }  # fmt: skip
 
 
 def small_resizes(seed, of_each_kind):

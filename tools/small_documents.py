@@ -8,7 +8,7 @@ import json
 import math
 from collections import namedtuple
 
-from call_names import CALLS, OF_BOX, OF_CHUNK, OF_INDEX, OF_RECTILINEAR, OF_REGION, OF_TARGET, WALKS, WITH_ENCODING
+from call_names import CALLS, OF_BOX, OF_CHUNK, OF_INDEX, OF_RECTILINEAR, OF_TASKS, WALKS, WITH_ENCODING
 from chunk_grids import Grid
 from chunk_keys import Encoding
 from extensions import GREATEST, GRIDS, grid_metadata
@@ -257,10 +257,8 @@ def question(array, call):
         asked["of"] = array.index()
     elif call in OF_BOX:
         asked["of"] = random.choice([array.box, array.box_past])()
-    elif call in OF_TARGET:
-        asked |= rechunking(array, **({"chunks": array.chunks()} if generator.one_in(2) else {}))
-    elif call in OF_REGION:
-        asked |= array.region()
+    elif call in OF_TASKS:
+        asked |= random.choice([by_tasks, region_by_tasks])(array)
     elif call == "changed_chunks":
         asked["resize"] = array.resized
     elif call == "byte_ranges":
@@ -270,11 +268,11 @@ def question(array, call):
     elif call == "decode":
         asked["of"] = array.key(array.source)
         asked["dimensionality"] = random.choice([len(array.shape), generator.number(GREATEST)])
-    if call in WALKS or call in ("parts", "copies", "copies_of_region"):
+    if call in WALKS or call in ("parts", "tasks"):
         asked["items"] = random.choice([1, power(random, 14), power(random, 20), GREATEST])
         if generator.one_in(2):
             asked["first"] = power(random, random.choice([3, 63]))
-    if call in ("counts", "counts_of_region") and generator.one_in(2):
+    if call == "task_counts" and generator.one_in(2):
         asked["share"] = array.share()
     if call in ("encode", "decode", "byte_ranges"):
         del asked["shape"], asked["chunk_grid"]

@@ -14,14 +14,14 @@ import sys
 
 HERE = pathlib.Path(__file__).resolve().parent
 sys.path.insert(0, str(HERE.parent / "tools"))
-from call_names import OF_BYTES, OF_CHUNK, OF_INDEX, OF_KEYS, OF_RECTILINEAR, OF_REGION, OF_RESIZE, OF_TARGET, WALKS  # noqa: E402
+from call_names import OF_BYTES, OF_CHUNK, OF_INDEX, OF_KEYS, OF_RECTILINEAR, OF_RESIZE, OF_TASKS, WALKS  # noqa: E402
 from chunk_grids import Grid  # noqa: E402
 from extensions import GREATEST  # noqa: E402
 
 # From the weakest on.
 OWN, ZARRS, STANDARD = "own", "zarrs", "standard"
 # Calls that zarrs hasn't, so that nobody else refuses them.
-NOT_IN_ZARRS = {"locate", "parts", *OF_TARGET, *OF_REGION, *OF_RESIZE, *OF_BYTES, "decode", *OF_RECTILINEAR}
+NOT_IN_ZARRS = {"locate", "parts", *OF_TASKS, *OF_RESIZE, *OF_BYTES, "decode", *OF_RECTILINEAR}
 # Refusals in the words of zarrs; docs/DIFFERENCES.md says which texts this library has made itself.
 WORDS_OF_ZARRS = re.compile("incompatible dimensionality|(regular|`regular_bounded`) chunk shape and array shape have")
 BOUNDS = {"chunk_indices_inbounds", "array_indices_inbounds"}
@@ -89,9 +89,8 @@ REASONS = [
     (OWN, "a refusal of a call that zarrs hasn't", lambda row: row.is_refused and row.call in NOT_IN_ZARRS),
     (OWN, "`runs` and `chunk_indices_counted`: one way to search", lambda row: row.call in OF_RECTILINEAR),
     (OWN, "`parts`: in which order they come, and their pages", lambda row: row.call == "parts"),
-    (OWN, "`copies`: in which groups, in which order they come, and their pages", lambda row: row.call == "copies"),
-    (OWN, "`counts`: which numbers, as factors, and the shares", lambda row: row.call == "counts"),
-    (OWN, "regions: what is asked of them, and the same", lambda row: row.call in OF_REGION),
+    (OWN, "`tasks`: in which groups, in which order they come, and their pages", lambda row: row.call == "tasks"),
+    (OWN, "`task_counts`: which numbers, as factors, and the shares", lambda row: row.call == "task_counts"),
     (OWN, "resizes: which numbers tell of the chunks", lambda row: row.call in OF_RESIZE),
     (OWN, "`byte_ranges`: how the ranges are told, and where there are none", lambda row: row.call in OF_BYTES),
     (OWN, "`first`: a page of a walk", lambda row: "first" in row.vector),

@@ -32,13 +32,13 @@ from ._answer import answer
 from ._boxes import Box
 from ._bytes import ByteRanges, byte_ranges
 from ._changed import ChangedChunks
-from ._copies import Copies, RegionCopies, Source
-from ._counts import Counts
 from ._encoding import Encoding
 from ._grid import Counted, Grid, Located, Parts
+from ._task_counts import TaskCounts
+from ._tasks import Destination, Source, Task
 from ._version import __version__
 
 __all__ = [
-    "Box", "ByteRanges", "ChangedChunks", "Copies", "Counted", "Counts", "Encoding", "Grid", "Located", "Parts", "RegionCopies", "Source",
+    "Box", "ByteRanges", "ChangedChunks", "Counted", "Destination", "Encoding", "Grid", "Located", "Parts", "Source", "Task", "TaskCounts",
     "__version__", "answer", "byte_ranges",
 ]  # fmt: skip

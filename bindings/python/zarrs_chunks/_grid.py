@@ -3,7 +3,7 @@
 from __future__ import annotations
 
 import itertools
-from collections.abc import Iterator, Mapping
+from collections.abc import Iterator, Mapping, Sequence
 from typing import Any, NamedTuple, SupportsIndex
 
 import numpy as np
@@ -13,13 +13,13 @@ from . import _library, _questions
 from ._answer import refuse
 from ._boxes import Box, as_box, given_box, selected_box, slabs
 from ._changed import ChangedChunks, changed_of
-from ._copies import Copies, RegionCopies, copies_of, ends_of_share, given_share, region_copies_of
-from ._counts import Counts, counts_of
 from ._encoding import Encoding, keys_between, usual_length
 from ._metadata import Metadata
 from ._numbers import GREATEST, Marks, Numbers, list_of_numbers, lists_of_numbers, whole_number
 from ._prepared import PreparedGrid
 from ._stored import Description, Stored
+from ._task_counts import TaskCounts, counts_of
+from ._tasks import Task, ends_of_share, given_chunks, given_order, given_share, groups_of, task_of
 
 # How much a single answer of `parts` holds at most, which then takes some gigabytes of memory: so many numbers of each kind, where each part
 # counts as four numbers more.
@@ -428,121 +428,124 @@ class Grid:
         walk = self._walk("iter_chunk_indices_and_subsets", whole_number("first", first))
         return ((tuple(chunk), as_box(box)) for chunk, box in walk)
 
-    def copies(
+    def tasks(
         self,
         encoding: Encoding,
         target: Grid,
         target_encoding: Encoding,
-        chunks: tuple[npt.ArrayLike, npt.ArrayLike] | None = None,
+        subset: tuple[npt.ArrayLike, npt.ArrayLike] | None = None,
+        at: npt.ArrayLike | None = None,
+        *,
+        task_chunks: npt.ArrayLike | None = None,
+        order: str = "target",
         first: SupportsIndex = 0,
         most: SupportsIndex | None = None,
         share: tuple[SupportsIndex, SupportsIndex] | None = None,
-    ) -> Iterator[Copies]:
-        """The rechunking of an array: what is copied into each chunk of the target that holds elements of the array, in row-major order of these
-        chunks. This grid and this encoding are those by which the array is stored, and `target` is a grid of the same array. With `chunks`, a box
-        of the target's chunks, nothing is copied into others. Of all these the one with the number `first` and those after it, at most `most`.
+    ) -> Iterator[Task]:
+        """Returns the tasks that copy the array, or a box of its elements, to the array of `target`. Each fills a buffer from chunks of this array,
+        and writes it to chunks of the target. The array of `target` may have another shape, or be this array.
 
-        In place of these two a share may be given, `(task, tasks)`: the shares of all tasks, one behind another, are the whole rechunking, and have
-        as many chunks each as any other, or one more. They are those of `chunkplan`.
+        `subset` is the box that is copied, as its start and its shape; by default it is the whole array. It begins at the index `at` of the target's
+        array, by default at 0 in each dimension. Raises ValueError if the box isn't in one of the arrays; it is never clipped. An empty box has no
+        tasks.
 
-        The items are read page by page. An item holds all its sources.
+        A task writes one chunk of the target. With `task_chunks` it writes that many neighbouring chunks along each dimension, counted from the
+        first chunk of the array. So it needs more memory, and reads fewer chunks. With `order="source"`, a task reads one chunk of this array, or
+        `task_chunks` of them. Then several tasks may write one chunk.
+
+        Tasks come in row-major order of their chunks: the one with the number `first`, and those after it, at most `most`. In place of both, `share`
+        is the number of a worker, counted from 0, and how many workers there are. The shares of all workers are together all tasks, and have equally
+        many tasks or one more. They are the shares of `chunkplan`.
+
+        Tasks are read page by page. A task holds all its sources and targets.
 
         >>> grid, target = (Grid([4], {"name": "regular", "configuration": {"chunk_shape": [edge]}}) for edge in (3, 2))
-        >>> for copies in grid.copies(Encoding("default"), target, Encoding("v2")):
-        ...     print(copies.key, [(source.key, source.in_chunk, source.in_target) for source in copies.sources])
-        0 [('c/0', Box(start=(0,), shape=(2,)), Box(start=(0,), shape=(2,)))]
-        1 [('c/0', Box(start=(2,), shape=(1,)), Box(start=(0,), shape=(1,))), ('c/1', Box(start=(0,), shape=(1,)), Box(start=(1,), shape=(1,)))]
-        >>> [copies.chunk for copies in grid.copies(Encoding("default"), target, Encoding("v2"), share=(1, 2))]
-        [(1,)]
+        >>> for task in grid.tasks(Encoding("default"), target, Encoding("v2")):
+        ...     print(task.buffer, [(part.key, part.in_chunk, part.in_buffer) for part in task.sources], [part.key for part in task.targets])
+        (2,) [('c/0', Box(start=(0,), shape=(2,)), Box(start=(0,), shape=(2,)))] ['0']
+        (2,) [('c/0', Box(start=(2,), shape=(1,)), Box(start=(0,), shape=(1,))), ('c/1', Box(start=(0,), shape=(1,)), Box(start=(1,), shape=(1,)))] ['1']
+        >>> [task] = grid.tasks(Encoding("default"), target, Encoding("v2"), task_chunks=[2])
+        >>> task.buffer, [part.key for part in task.sources], [(part.key, part.in_buffer, part.whole) for part in task.targets]
+        ((4,), ['c/0', 'c/1'], [('0', Box(start=(0,), shape=(2,)), True), ('1', Box(start=(2,), shape=(2,)), True)])
+
+        The last six elements go to an array of twelve, from the index 4 on:
+
+        >>> grid = Grid([7], {"name": "regular", "configuration": {"chunk_shape": [3]}})
+        >>> target = Grid([12], {"name": "regular", "configuration": {"chunk_shape": [5]}})
+        >>> for task in grid.tasks(Encoding("default"), target, Encoding("v2"), grid.box(np.s_[1:]), at=[4]):
+        ...     print([part.key for part in task.sources], [(part.key, part.in_chunk, part.whole) for part in task.targets])
+        ['c/0'] [('0', Box(start=(4,), shape=(1,)), False)]
+        ['c/0', 'c/1', 'c/2'] [('1', Box(start=(0,), shape=(5,)), True)]
         """
         _check_encoding("encoding", encoding)
         _check_grid("target", target)
         _check_encoding("target_encoding", target_encoding)
-        self._check_array_of(target)
         number, limit = whole_number("first", first), GREATEST if most is None else whole_number("most", most)
-        asked = {"chunk_key_encoding": encoding._metadata.text, "target": target._stored_text(target_encoding._metadata.text)}
-        box = None if chunks is None else given_box("chunks", chunks)
-        within = {} if box is None else {"chunks": _questions.plain_text(box)}
+        copy = _given_copy(subset, at, task_chunks, order)
+        stored = {"chunk_key_encoding": encoding._metadata.text, "target": target._array_text(target_encoding._metadata.text)}
+        # What the library refuses is raised at once, and not with the first task.
+        self._ask("tasks", items=0, **stored, **copy)
         if share is None:
-            if box is not None:
-                # What the library refuses is told at once, and not with the first item.
-                self._ask("copies", items=0, **asked, **within)
-            return map(copies_of, self._walk("copies", number, limit, **asked, **within))
+            return map(task_of, self._walk("tasks", number, limit, **stored, **_texts(copy)))
         if number > 0 or most is not None:
             raise ValueError("share: it is given in place of `first` and `most`, and not beside them")
-        return map(copies_of, self._share(given_share(share), box, asked, within))
+        pieces = self._pieces(target, copy, given_share(share))
+        walks = (self._walk("tasks", number, count, **stored, **_texts(piece)) for piece, number, count in pieces)
+        return map(task_of, itertools.chain.from_iterable(walks))
 
-    def _share(self, share: tuple[int, int], box: Box | None, asked: dict[str, bytes], within: dict[str, bytes]) -> Iterator[Any]:
-        """The items of a share of a rechunking into the chunks of a box, or into all."""
-        answer = self._ask("counts", share=share, **asked, **within)
-        first, end = ends_of_share(answer, share)
+    def _pieces(self, target: Grid, copy: dict[str, Any], share: tuple[int, int]) -> Iterator[tuple[dict[str, Any], int, int]]:
+        """Yields copies that have the tasks of a share, each with the number of the first task and how many there are. It is the copy itself if a number
+        of 64 bits counts its tasks, and copies of parts of its box if not."""
+        zeros, ones = [0] * self._dimensionality, [1] * self._dimensionality
+        (start, shape), at, each = copy.get("subset", (zeros, self.array_shape)), copy.get("at", zeros), copy.get("task_chunks", ones)
+        grouped, begin = (self, start) if copy["order"] == "source" else (target, at)
+        first, count, _found = grouped.chunks_in_array_subset(list(begin), list(shape))
+        chunks = Box(tuple(first.tolist()), tuple(count.tolist()))
+        groups = groups_of(chunks, each)
+        number, end = ends_of_share(groups, share)
         if end <= GREATEST:
-            return self._walk("copies", first, end - first, **asked, **within)
-        # A walk has no numbers for all of its items: the box of the chunks that are written is gone through by parts of it, each with a walk.
-        written = Box((0,) * self._dimensionality if box is None else box.start, tuple(answer["lines"]))
-        pieces = slabs(written, first, end - first)
-        walks = (self._walk("copies", number, count, chunks=_questions.plain_text(slab), **asked) for slab, number, count in pieces)
-        return itertools.chain.from_iterable(walks)
+            yield copy, number, end - number
+            return
+        for slab, number, count in slabs(groups, number, end - number):
+            starts, ends = grouped._steps_of(slab, chunks, each, begin, shape)
+            sizes = [end - start for start, end in zip(starts, ends)]
+            yield {**copy, "subset": [_sums(start, starts), sizes], "at": _sums(at, starts)}, number, count
 
-    def counts(self, target: Grid, chunks: tuple[npt.ArrayLike, npt.ArrayLike] | None = None) -> Counts:
-        """How much a rechunking to another grid of the same array copies: of what `copies` answers how many items there are, how many sources they
-        have, and more. It isn't walked over: a rechunking of 10^18 elements takes no longer than its chunks along each dimension by itself.
+    def _steps_of(self, groups: Box, chunks: Box, each: Sequence[int], begin: Sequence[int], shape: Sequence[int]) -> tuple[list[int], list[int]]:
+        """Returns where the groups of a box begin and end along each dimension, counted from the first element of a region with these chunks."""
+        along = [*zip(*groups, *chunks, each)]
+        firsts = [max(group * k, first) for group, _groups, first, _count, k in along]
+        behind = [(group + count) * k for group, count, _first, _count, k in along]
+        is_last = [chunk >= first + count for chunk, first, count in zip(behind, *chunks)]
+        starts = self.chunk_origin(firsts)
+        ends = self.chunk_origin([first if last else chunk for chunk, first, last in zip(behind, chunks.start, is_last)])
+        assert starts is not None and ends is not None
+        return (
+            [max(start - index, 0) for start, index in zip(starts, begin)],
+            [size if last else end - index for end, index, size, last in zip(ends, begin, shape, is_last)],
+        )
+
+    def task_counts(
+        self,
+        target: Grid,
+        subset: tuple[npt.ArrayLike, npt.ArrayLike] | None = None,
+        at: npt.ArrayLike | None = None,
+        *,
+        task_chunks: npt.ArrayLike | None = None,
+        order: str = "target",
+    ) -> TaskCounts:
+        """Returns how much the tasks of a copy read, decode and write, without walking over them: the counts of what `tasks` returns for these
+        arguments. Raises ValueError if a grid isn't regular along some dimension and the copy has more than 1048576 chunks along a dimension.
 
         >>> grid, target = (Grid([4], {"name": "regular", "configuration": {"chunk_shape": [edge]}}) for edge in (3, 2))
-        >>> grid.counts(target)
-        Counts(copies=3, elements=4, largest_line=2, lines=2, source_chunks=2)
+        >>> grid.task_counts(target)
+        TaskCounts(chunks_read=3, chunks_written=2, elements_decoded=9, elements_moved=4, largest_task=2, tasks=2)
+        >>> grid.task_counts(target, task_chunks=[2])
+        TaskCounts(chunks_read=2, chunks_written=2, elements_decoded=6, elements_moved=4, largest_task=4, tasks=1)
         """
         _check_grid("target", target)
-        self._check_array_of(target)
-        within = {} if chunks is None else {"chunks": given_box("chunks", chunks)}
-        return counts_of(self._ask("counts", chunk_key_encoding=_ANY_ENCODING, target=target._stored_text(_ANY_ENCODING), **within))
-
-    def copies_of_region(
-        self,
-        encoding: Encoding,
-        target: Grid,
-        target_encoding: Encoding,
-        subset: tuple[npt.ArrayLike, npt.ArrayLike],
-        at: npt.ArrayLike | None = None,
-        first: SupportsIndex = 0,
-        most: SupportsIndex | None = None,
-    ) -> Iterator[RegionCopies]:
-        """What is copied of a region: `subset`, a box of the array's elements, which is given as its start and its shape, goes to the array of
-        `target`, which may have another shape, or be this array. There it begins at the index `at`, or where there is none at 0 in each dimension.
-        An item for each chunk of the target that takes some of it, in row-major order of these chunks; of all these the one with the number `first`
-        and those after it, at most `most`. An empty box has none. Raises ValueError where the box doesn't lie in one of the two arrays; it is never
-        clipped.
-
-        The items are read page by page. An item holds all its sources.
-
-        >>> grid = Grid([7], {"name": "regular", "configuration": {"chunk_shape": [3]}})
-        >>> target = Grid([12], {"name": "regular", "configuration": {"chunk_shape": [5]}})
-        >>> for copies in grid.copies_of_region(Encoding("default"), target, Encoding("v2"), grid.box(np.s_[1:]), at=[4]):
-        ...     print(copies.key, copies.whole, [(source.key, source.in_target) for source in copies.sources])
-        0 False [('c/0', Box(start=(4,), shape=(1,)))]
-        1 True [('c/0', Box(start=(0,), shape=(1,))), ('c/1', Box(start=(1,), shape=(3,))), ('c/2', Box(start=(4,), shape=(1,)))]
-        """
-        _check_encoding("encoding", encoding)
-        _check_grid("target", target)
-        _check_encoding("target_encoding", target_encoding)
-        number, limit = whole_number("first", first), GREATEST if most is None else whole_number("most", most)
-        asked = {"chunk_key_encoding": encoding._metadata.text, "target": target._array_text(target_encoding._metadata.text)}
-        region = _given_region(subset, at)
-        # What the library refuses is told at once, and not with the first item.
-        self._ask("copies_of_region", items=0, **asked, **region)
-        return map(region_copies_of, self._walk("copies_of_region", number, limit, **asked, **region))
-
-    def counts_of_region(self, target: Grid, subset: tuple[npt.ArrayLike, npt.ArrayLike], at: npt.ArrayLike | None = None) -> Counts:
-        """How much is copied of a region, without walking over it: the counts of what `copies_of_region` answers.
-
-        >>> grid = Grid([7], {"name": "regular", "configuration": {"chunk_shape": [3]}})
-        >>> target = Grid([12], {"name": "regular", "configuration": {"chunk_shape": [5]}})
-        >>> grid.counts_of_region(target, grid.box(np.s_[1:]), at=[4])
-        Counts(copies=4, elements=6, largest_line=3, lines=2, source_chunks=3)
-        """
-        _check_grid("target", target)
-        region = _given_region(subset, at)
-        return counts_of(self._ask("counts_of_region", chunk_key_encoding=_ANY_ENCODING, target=target._array_text(_ANY_ENCODING), **region))
+        copy = _given_copy(subset, at, task_chunks, order)
+        return counts_of(self._ask("task_counts", chunk_key_encoding=_ANY_ENCODING, target=target._array_text(_ANY_ENCODING), **copy))
 
     def changed_chunks(self, shape: npt.ArrayLike) -> ChangedChunks:
         """Returns what becomes of the chunks if the array gets another shape and keeps its `chunk_grid`. Raises ValueError if the `chunk_grid` makes no
@@ -553,14 +556,6 @@ class Grid:
         ChangedChunks(before=(3, 3), after=(4, 2), kept=(2, 1))
         """
         return changed_of(self._ask("changed_chunks", resize=list_of_numbers("shape", shape).tolist()))
-
-    def _check_array_of(self, target: Grid) -> None:
-        if target.array_shape != self.array_shape:
-            raise ValueError("the source and the target have different array shapes")
-
-    def _stored_text(self, encoding: bytes) -> bytes:
-        """How the array is stored by this grid and an encoding, as JSON."""
-        return _questions.object_text(chunk_grid=self._metadata.text, chunk_key_encoding=encoding)
 
     def _array_text(self, encoding: bytes) -> bytes:
         """The array itself, as JSON: its shape, this grid and an encoding."""
@@ -583,12 +578,22 @@ def _check_grid(argument: str, grid: object) -> None:
         raise TypeError(f"{argument}: a Grid is wanted, and not a {type(grid).__name__}")
 
 
-def _given_region(subset: Any, at: Any) -> dict[str, bytes]:
-    """The members of a question about a region: its box, and where it begins."""
-    region = {"subset": _questions.plain_text(given_box("subset", subset))}
+def _given_copy(subset: Any, at: Any, task_chunks: Any, order: Any) -> dict[str, Any]:
+    """Returns what a copy and its tasks are, as the members of a question have it; what isn't given isn't among them."""
+    copy: dict[str, Any] = {} if subset is None else {"subset": given_box("subset", subset)}
     if at is not None:
-        region["at"] = _questions.plain_text(list_of_numbers("at", at).tolist())
-    return region
+        copy["at"] = list_of_numbers("at", at).tolist()
+    if task_chunks is not None:
+        copy["task_chunks"] = given_chunks(task_chunks)
+    return {**copy, "order": given_order(order)}
+
+
+def _texts(members: dict[str, Any]) -> dict[str, bytes]:
+    return {name: _questions.plain_text(value) for name, value in members.items()}
+
+
+def _sums(numbers: Sequence[int], steps: Sequence[int]) -> list[int]:
+    return [number + step for number, step in zip(numbers, steps)]
 
 
 def _check_encoding(argument: str, encoding: object) -> None:
