@@ -7,7 +7,10 @@ use std::test::Fail;
 use zarrs_chunk_base::Refusal;
 use zarrs_chunk_plan::Share;
 use zarrs_chunk_tasks::laws::{
-    a_rechunking_writes_whole_chunks, a_whole_chunk_is_in_one_task, counts_are_those_of_the_parts, each_element_goes_by_the_buffer, each_task_lies_in_both_arrays, no_chunk_is_in_two_tasks, shares_are_together_the_tasks, the_other_way_round_has_the_same_tasks, the_tasks_are_the_copy, the_walk_gives_the_tasks, there_are_tasks, two_stages_are_the_copy,
+    a_rechunking_writes_whole_chunks, a_whole_chunk_is_in_one_task, counts_are_those_of_the_parts,
+    each_element_goes_by_the_buffer, each_task_lies_in_both_arrays, no_chunk_is_in_two_tasks,
+    shares_are_together_the_tasks, the_other_way_round_has_the_same_tasks, the_tasks_are_the_copy,
+    the_walk_gives_the_tasks, there_are_tasks, two_stages_are_the_copy,
 };
 use zarrs_chunk_tasks::{
     CountsAlong, Task, Tasks, TasksError, task_counts, task_counts_by_source, tasks,

@@ -6,8 +6,8 @@ ghost use Rattle.zarrs_chunk_base.specs.Json.{size_tree};
 ghost use Rattle.zarrs_chunk_plan.specs.Counted.{counted};
 ghost use Rattle.zarrs_chunk_plan.specs.Counts.{product};
 ghost use Rattle.zarrs_chunk_tasks.specs.Counts.{count_along};
-ghost use Rattle.zarrs_chunk_questions.specs.Refused.{HasNoCounts};
-ghost use Rattle.zarrs_chunk_questions.specs.Tasks.{IsCountsAnswer, count_tree as tree_of_count, counts_tree as tree_of_counts, share_tree as tree_of_share};
+ghost use Rattle.zarrs_chunk_questions.specs.Refused.{HasNoCounts, HasNoTasks};
+ghost use Rattle.zarrs_chunk_questions.specs.Tasks.{HasTasksOf, IsCountsAnswer, count_tree as tree_of_count, counts_tree as tree_of_counts, share_tree as tree_of_share};
 ghost use Rattle.zarrs_chunk_questions.specs.Trees.{or_null};
 ghost use Rattle.zarrs_chunk_questions.specs.seen.Copies.{copy_of};
 ghost use Rattle.zarrs_chunk_questions.specs.seen.Read.{share_of};
@@ -33,6 +33,34 @@ pub(crate) fn counts_of(
         (λ tree. IsCountsAnswer (copy_of copying.now) (share_of share.now) (view tree))
         (OrMemory (HasNoCounts (copy_of copying.now))) }
 {
+    expect_tasks(alloc, copying)?;
+    let Copying {
+        source,
+        target,
+        region,
+        at,
+        order,
+        task_chunks,
+    } = copying;
+    let (from, into) = (&source.grid, &target.grid);
+    let can = can_count(alloc, from, into, region, at)?;
+    if !can {
+        return Err(Refusal::Refused(LineFault::TooManyToCount));
+    }
+    match task_counts_by(alloc, *order, from, into, region, at, task_chunks) {
+        Ok(counts) => Ok(counts_tree(alloc, &counts, region, share)?),
+        Err(refusal) => Err(refusal.map(LineFault::Tasks)),
+    }
+}
+
+/// Refuses a copy that has no tasks.
+///
+/// # Errors
+/// The copy has no tasks; or out of memory.
+fn expect_tasks(alloc: Global, copying: &Copying) -> Result<(), Refusal<LineFault>>
+    ensures { MatchResult result (λ _. HasTasksOf (copy_of copying.now))
+        (OrMemory (HasNoTasks (copy_of copying.now))) }
+{
     let Copying {
         source,
         target,
@@ -43,15 +71,7 @@ pub(crate) fn counts_of(
     } = copying;
     let (from, into) = (&source.grid, &target.grid);
     match tasks_by(alloc, *order, from, into, region, at, task_chunks) {
-        Ok(_) => {}
-        Err(refusal) => return Err(refusal.map(LineFault::Tasks)),
-    }
-    let can = can_count(alloc, from, into, region, at)?;
-    if !can {
-        return Err(Refusal::Refused(LineFault::TooManyToCount));
-    }
-    match task_counts_by(alloc, *order, from, into, region, at, task_chunks) {
-        Ok(counts) => Ok(counts_tree(alloc, &counts, region, share)?),
+        Ok(_) => Ok(()),
         Err(refusal) => Err(refusal.map(LineFault::Tasks)),
     }
 }
