@@ -20,8 +20,8 @@ use Rattle.zarrs_chunk_tasks.specs.declared.counts.CountsAlong.{CountsAlong}
 use Rattle.zarrs_chunk_parts.specs.declared.part.Part.{Part}
 use Rattle.zarrs_chunk_questions.specs.Answers.{IsAnswer, IsArrayAnswer, IsBoxAnswer, IsGridAnswer, IsNumbersAnswer}
 use Rattle.zarrs_chunk_questions.specs.Bytes.{ranges_tree}
-use Rattle.zarrs_chunk_questions.specs.Pages.{count_of, is_more, item_tree, item_trees, page_tree, part_tree, parts_tree, some_from, walk_page}
-use Rattle.zarrs_chunk_questions.specs.Question.{Asked, Question, ShareAsked}
+use Rattle.zarrs_chunk_questions.specs.Pages.{count_of, first_of, is_more, item_tree, item_trees, page_tree, part_tree, parts_tree, some_from, walk_page}
+use Rattle.zarrs_chunk_questions.specs.Question.{Asked, Question, ShareAsked, parts, task_counts, tasks}
 use Rattle.zarrs_chunk_questions.specs.Tasks.{count_tree, counts_tree, number_tree, overlap_tree, task_tree}
 use Rattle.zarrs_chunk_questions.specs.Trees.{box_tree, numbers_tree, or_null}
 use Rattle.zarrs_chunk_questions.specs.declared.call.OfBox.{OfBox}
@@ -125,8 +125,13 @@ of_counts share region along = grind (arith, a_count, no_float_in_numbers, a_num
 
 of_an_array : (shape : List ℕ) (own : Data) (asked : Asked) (kind : GridKind) (grid : Grid) (t : Data) → IsArrayAnswer shape own asked kind grid t
     → HasNone t
+of_an_array shape own (parts encoding items lists) kind grid t is = grind (arith, of_some_parts)
+of_an_array shape own (tasks encoding copy items) kind grid t is =
+    let answer = is.1.1 in
+    ap has_float answer.tree ∙ of_tasks answer.plans (is_more (first_of items) (length answer.plans) (count_of answer.tasks))
+of_an_array shape own (task_counts encoding copy share) kind grid t is = ap has_float is.1.1.tree ∙ of_counts share is.0.region is.1.1.counts
 of_an_array shape own asked kind grid t is =
-    grind (arith, of_alone, of_list_of_numbers, of_a_box, of_a_walk, of_says, of_some_parts, of_tasks, of_counts, or_none, no_float_in_numbers)
+    grind (arith, of_alone, of_list_of_numbers, of_a_box, of_a_walk, of_says, or_none, no_float_in_numbers)
 
 of_ranges : (ranges : ByteRanges) → HasNone (ranges_tree ranges)
 of_ranges ranges = rw (no_float_in_numbers ranges.counts.items, no_float_in_numbers ranges.strides.items) refl
