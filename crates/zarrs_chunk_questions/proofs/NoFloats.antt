@@ -1,5 +1,5 @@
 -- No answer has a float: its numbers are sizes.
-use Rattle.std.proofs.Common.{◌≡◌, ◌∙◌, ◌||◌, ℕ, zero, suc, Bool, false, true, List, [], ◌∷◌, Option, Some, None, ap, ap₂, length, map, nat_lt, refl, take, arith}
+use Rattle.std.proofs.Common.{◌≡◌, ◌∙◌, ◌||◌, ℕ, zero, suc, Bool, false, true, List, [], ◌∷◌, Option, Some, None, ap, ap₂, length, map, nat_lt, refl, take, arith, ⊎_elim}
 use Rattle.std.proofs.lemmas.Bool.{or_parts}
 use Rattle.serde_json.specs.Data.{Data, Members}
 use Rattle.serde_json.specs.View.{items_of}
@@ -21,7 +21,8 @@ use Rattle.zarrs_chunk_parts.specs.declared.part.Part.{Part}
 use Rattle.zarrs_chunk_questions.specs.Answers.{IsAnswer, IsArrayAnswer, IsBoxAnswer, IsGridAnswer, IsNumbersAnswer}
 use Rattle.zarrs_chunk_questions.specs.Bytes.{ranges_tree}
 use Rattle.zarrs_chunk_questions.specs.Pages.{count_of, first_of, is_more, item_tree, item_trees, page_tree, part_tree, parts_tree, some_from, walk_page}
-use Rattle.zarrs_chunk_questions.specs.Question.{Asked, Question, ShareAsked, parts, task_counts, tasks}
+use Rattle.zarrs_chunk_questions.specs.Question as question
+use Rattle.zarrs_chunk_questions.specs.Question.{Asked, Question, ShareAsked}
 use Rattle.zarrs_chunk_questions.specs.Tasks.{count_tree, counts_tree, number_tree, overlap_tree, task_tree}
 use Rattle.zarrs_chunk_questions.specs.Trees.{box_tree, numbers_tree, or_null}
 use Rattle.zarrs_chunk_questions.specs.declared.call.OfBox.{OfBox}
@@ -125,11 +126,12 @@ of_counts share region along = grind (arith, a_count, no_float_in_numbers, a_num
 
 of_an_array : (shape : List ℕ) (own : Data) (asked : Asked) (kind : GridKind) (grid : Grid) (t : Data) → IsArrayAnswer shape own asked kind grid t
     → HasNone t
-of_an_array shape own (parts encoding items lists) kind grid t is = grind (arith, of_some_parts)
-of_an_array shape own (tasks encoding copy items) kind grid t is =
-    let answer = is.1.1 in
+of_an_array shape own (question.parts encoding items lists) kind grid t is =
+    ⊎_elim (λ (none, _). ap has_float none) (λ (can, in_all, some, are, tree). ap has_float tree ∙ of_some_parts (first_of items) in_all some) is.3
+of_an_array shape own (question.tasks encoding copy items) kind grid t is =
+    let answer = is.2 in
     ap has_float answer.tree ∙ of_tasks answer.plans (is_more (first_of items) (length answer.plans) (count_of answer.tasks))
-of_an_array shape own (task_counts encoding copy share) kind grid t is = ap has_float is.1.1.tree ∙ of_counts share is.0.region is.1.1.counts
+of_an_array shape own (question.task_counts encoding copy share) kind grid t is = ap has_float is.2.tree ∙ of_counts share is.0.region is.2.counts
 of_an_array shape own asked kind grid t is =
     grind (arith, of_alone, of_list_of_numbers, of_a_box, of_a_walk, of_says, or_none, no_float_in_numbers)
 
