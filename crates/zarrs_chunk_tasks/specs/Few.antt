@@ -13,9 +13,10 @@ most_to_choose = 131072
 abbrev pub most_to_count : ℕ
 most_to_count = 1048576
 
--- more chunks than this hold some of a box, along some dimension; so it is in one of the two arrays
+-- along some dimension more than `most` chunks hold some of the box
 abbrev pub HasMany : (most : ℕ) → List Dimension → Box → Type 0
 HasMany most ds b = (cover : Box) × IsCover ds b cover × ((n : ℕ) × Contains cover.shape n × (most < n))
 
+-- that holds of the region in the source, or of the moved box in the target
 abbrev pub HaveMany : (most : ℕ) → (source target : List Dimension) → (region moved : Box) → Type 0
 HaveMany most source target region moved = HasMany most source region ⊎ HasMany most target moved

@@ -19,8 +19,8 @@ use Rattle.zarrs_chunk_tasks.specs.declared.tasks_error.TasksError.TheVariants.{
 -- The chunks of one of the two arrays are grouped, and `elements` is the box of that array that is copied. In the source's array the copy begins at
 -- `first`, in the target's at `at`.
 module _ (ds : List Dimension) (each : List ℕ) (elements : Box) (first at : List ℕ) where
-  -- The task of a group: its buffer is what the group holds. Its boxes begin as far after `first` and `at` as the buffer begins after the first one of
-  -- `elements`.
+  -- The task of a group: its buffer is what the group holds of `elements`. `behind` is this box, counted from where `elements` begins. The task reads
+  -- the box as far behind `first`, and writes the box as far behind `at`.
   pub record IsTask (group : List ℕ) (task : Task) : Type 0 where
     pub numbers : task.group.items ≡ group
     pub behind : Box
@@ -73,7 +73,7 @@ pub record AreTheCopy (region : Box) (at : List ℕ) (tasks : List Task) : Type 
 abbrev pub exchanged : Task → Task
 exchanged task = record { group = task.group; source = task.target; target = task.source }
 
--- one of two boxes has all that a chunk has of the array, and the other one has some of that
+-- One of two boxes has all elements of the array that a chunk holds. The other one has some element of the chunk.
 abbrev pub HasAllAndSome : List Dimension → (b other : Box) → (chunk : List ℕ) → Type 0
 HasAllAndSome ds b other chunk = (HasAllOf ds b chunk × Meets ds other chunk) ⊎ (Meets ds b chunk × HasAllOf ds other chunk)
 

@@ -114,8 +114,8 @@ pub fn no_chunk_is_in_two_tasks<G: ChunkGridTraits, H: ChunkGridTraits>(source: 
         → Meets (G.dimensions source.now) other.source chunk → ⊥) tasks }
 {}
 
-/// If a task writes all that a chunk of the target has of its array, no other task writes some of that. So this chunk needn't be read before, and needs no
-/// lock. If a task reads all that a chunk of the source has, no other task reads some of that.
+/// If a task writes all that a chunk of the target has of its array, no other task writes to the chunk. Such a task needn't read the chunk first. Between
+/// two arrays it needs no lock against the other tasks. If a task reads all that a chunk of the source has of its array, no other task reads the chunk.
 pub fn a_whole_chunk_is_in_one_task<G: ChunkGridTraits, H: ChunkGridTraits>(
     source: &G,
     target: &H,
@@ -137,9 +137,12 @@ pub fn a_whole_chunk_is_in_one_task<G: ChunkGridTraits, H: ChunkGridTraits>(
         → HasAllAndSome (G.dimensions source.now) one.source other.source chunk → ⊥) tasks }
 {}
 
-/// The copy the other way round goes from the target's array back to the source's. Its tasks by groups of the chunks of the same array are the tasks of the
-/// copy, with their boxes exchanged.
+/// The copy the other way round takes the moved box back to the region. It can be made if the copy can, with the same numbers of chunks a task. Its tasks,
+/// by groups of the same chunks, are the tasks of the copy with their boxes exchanged, in the same order.
 pub fn the_other_way_round_has_the_same_tasks<G: ChunkGridTraits>(grid: &G)
+    ensures has { (source target : List ℕ) (region : Box) (at each : List ℕ)
+        → HasTasks source target region at each
+        → HasTasks target source (moved at region) region.start each }
     ensures by_target { (region : Box) (at each : List ℕ) (tasks : List Task)
         → AreTasksByTarget (G.dimensions grid.now) each region at tasks
         → AreTasksBySource (G.dimensions grid.now) each (moved at region) region.start

@@ -1,4 +1,4 @@
-//! The tasks of a copy between grids of one type, by groups of the chunks of either.
+//! The tasks of a copy, and their counts, by groups of the chunks of either array.
 ghost use Rattle.std.specs.Prelude.{◌≡◌, IfErr, IfOk, List, length, map};
 ghost use Rattle.std.specs.Int.NonZero.{non_zero_u64_get};
 ghost use Rattle.std.specs.List.{AllByRecursion};
@@ -59,7 +59,7 @@ pub fn tasks_by<'a, G: ChunkGridTraits>(
     }
 }
 
-/// Counts these tasks: [`task_counts`] or [`task_counts_by_source`].
+/// Counts the tasks of the copy of a region, by groups of the chunks of the array that `order` names: [`task_counts`] or [`task_counts_by_source`].
 ///
 /// # Errors
 /// As of [`tasks`].
