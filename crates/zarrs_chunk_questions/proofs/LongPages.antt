@@ -4,18 +4,17 @@ use Rattle.std.proofs.Common.{◌-◌, Err, IfOk, Ok, Result, ap, ap₂, arith, 
 use Rattle.std.specs.declared.alloc.AllocError.{AllocError}
 use Rattle.std.proofs.lemmas.Nat.{mul-le}
 use Rattle.std.proofs.lemmas.List.{length-map}
-use Rattle.std.specs.List.{AllByRecursion, AllZip, Contains, filter}
-use Rattle.serde_json.specs.Data.{Data, Members, array, boolean, member, no_members, object, string}
+use Rattle.std.specs.List.{AllByRecursion, AllZip, filter}
+use Rattle.serde_json.specs.Data.{Data, Members, array, member, no_members, object, string}
 use Rattle.serde_json.specs.View.{items_of, view}
 use Rattle.serde_json.specs.declared.value.Value.{Value}
-use Rattle.zarrs_chunk_base.specs.ArraySubset.{AreWithin, Box, IsBox, lasts}
-use Rattle.zarrs_chunk_base.specs.Dimension.{Dimension, Holds, IsChain, array_sizes, grid_sizes}
+use Rattle.zarrs_chunk_base.specs.ArraySubset.{Box}
+use Rattle.zarrs_chunk_base.specs.Dimension.{Dimension, Holds, array_sizes, grid_sizes}
 use Rattle.zarrs_chunk_base.proofs.InEach.{length_numbers}
 use Rattle.zarrs_chunk_axes.specs.InBounds.{AreBelow}
 use Rattle.zarrs_chunk_axes.proofs.RowMajor.{all_below, all_follow}
-use Rattle.zarrs_chunks.specs.Walks.{box_at, boxed, chunks_in, chunks_of, counted_from, ends_within, lengths_at, starts_at}
+use Rattle.zarrs_chunks.specs.Walks.{box_at, boxed, chunks_in, chunks_of, ends_within, lengths_at, starts_at}
 use Rattle.zarrs_chunks.proofs.ChunksInBoxes.{length_below}
-use Rattle.zarrs_chunks.proofs.Covers.{head_some, tail_some}
 use Rattle.zarrs_chunk_parts.specs.Plan.{IsPart, Meets}
 use Rattle.zarrs_chunk_parts.specs.declared.part.Part.{Part}
 use Rattle.zarrs_chunk_keys.specs.ChunkKey.{IsKey}

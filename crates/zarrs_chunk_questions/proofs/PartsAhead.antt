@@ -1,5 +1,5 @@
 -- What a walk over the parts of a box has given, and what it would still have given, are the plan of the box.
-use Rattle.std.proofs.Common.{◌≡◌, ◌≤◌, ℕ, List, [], ◌++◌, arith, length, length-append, refl}
+use Rattle.std.proofs.Common.{◌≤◌, ℕ, List, [], ◌++◌, arith, length, length-append, refl}
 use Rattle.zarrs_chunk_base.specs.ArraySubset.{Box, IsBox}
 use Rattle.zarrs_chunk_keys.proofs.OneKey.{has_key}
 use Rattle.zarrs_chunk_keys.specs.declared.chunk_key_encoding.named.ChunkKeyEncoding.{ChunkKeyEncoding}
@@ -13,7 +13,7 @@ use Rattle.zarrs_chunk_plan.specs.seen.Parts.{HasKeys, IsPlanned, chunks_to_come
 use Rattle.zarrs_chunk_plan.proofs.ShareLists.{both_zipped}
 use Rattle.zarrs_chunk_plan.proofs.SomePlan.{have_parts}
 use Rattle.zarrs_chunk_plan.proofs.Walked.{HaveCome, at_first, plan_of, planned_meet}
-use Rattle.zarrs_chunk_questions.specs.seen.Copies.{CanGiveParts, PartsToCome, Stored, dimensions_in, key_in}
+use Rattle.zarrs_chunk_questions.specs.seen.Copies.{PartsToCome, Stored, dimensions_in, key_in}
 
 pub keys_in : (encoding : ChunkKeyEncoding) → HasKeys (key_in encoding)
 keys_in encoding = has_key (encoding_in encoding)

@@ -15,9 +15,9 @@ use Rattle.zarrs_chunk_tasks.specs.Tasks.{TaskPlan}
 use Rattle.zarrs_chunk_tasks.specs.declared.task.Task.{Task}
 use Rattle.zarrs_chunk_tasks.specs.declared.walk.Tasks.{Tasks}
 use Rattle.zarrs_chunk_tasks.specs.seen.PlannedTasks.{GivesPlans}
-use Rattle.zarrs_chunk_tasks.specs.seen.Tasks.{IsAboutTasks, all_groups, groups_to_come}
+use Rattle.zarrs_chunk_tasks.specs.seen.Tasks.{IsAboutTasks, groups_to_come}
 use Rattle.zarrs_chunk_tasks.proofs.TasksBegun.{TasksHaveCome, tasks_ahead, zip_follows}
-use Rattle.zarrs_chunk_questions.specs.Pages.{count_of, is_more, page_tree, some_from}
+use Rattle.zarrs_chunk_questions.specs.Pages.{count_of, is_more, page_tree}
 use Rattle.zarrs_chunk_questions.specs.Tasks.{HasTasksOf, IsTasksAnswer, source_dimensions, task_tree}
 use Rattle.zarrs_chunk_questions.specs.declared.copying.Copying.{Copying}
 use Rattle.zarrs_chunk_questions.specs.seen.Copies.{HasPartsBetween, HavePlans, IsPlanOf, Stored, copy_of, dimensions_in, key_in, parts_in, parts_of}

@@ -1,5 +1,4 @@
 use Rattle.std.proofs.Common.{sym, arith, ⊎_elim}
-use Rattle.zarrs_chunk_base.specs.Greatest.{greatest}
 use Rattle.zarrs_chunk_plan.proofs.ByNumber.{counted_cases}
 use Rattle.zarrs_chunk_questions.proofs.counting.as_size.Goals as goal
 

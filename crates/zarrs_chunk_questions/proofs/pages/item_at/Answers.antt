@@ -1,7 +1,7 @@
-use Rattle.std.proofs.Common.{◌≡◌, ◌∙◌, ◌<◌, Some, ap, arith, length, slice_get, subst, sym}
+use Rattle.std.proofs.Common.{◌<◌, arith, length, subst, sym}
 use Rattle.zarrs_chunk_axes.specs.InBounds.{AreBelow}
 use Rattle.zarrs_chunk_base.specs.Dimension.{grid_sizes}
-use Rattle.zarrs_chunks.specs.Walks.{chunks_in, chunks_of}
+use Rattle.zarrs_chunks.specs.Walks.{chunks_of}
 use Rattle.zarrs_chunk_plan.proofs.Taken.{of_place}
 use Rattle.zarrs_chunk_questions.proofs.WalkPages.{all_below_grid, all_counted, item_of_number}
 use Rattle.zarrs_chunk_questions.proofs.pages.item_at.Goals as goal

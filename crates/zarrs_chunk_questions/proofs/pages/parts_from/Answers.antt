@@ -1,6 +1,6 @@
 use Rattle.std.proofs.Common.{◌≡◌, ◌≢◌, ◌∙◌, Ok, ap, inl, length, map, rules}
 use Rattle.serde_json.specs.View.{view}
-use Rattle.serde_json.specs.declared.value.Value.{Null, the_lemmas}
+use Rattle.serde_json.specs.declared.value.Value.{the_lemmas}
 use Rattle.zarrs_chunk_keys.proofs.OneKey.{has_key}
 use Rattle.zarrs_chunk_keys.specs.ChunkKey.{IsKey}
 use Rattle.zarrs_chunk_keys.specs.seen.Encodings.{encoding_in}

@@ -6,7 +6,7 @@ use Rattle.zarrs_chunks.specs.seen.Grids.{chained_in}
 use Rattle.zarrs_chunk_tasks.specs.seen.Tasks.{all_groups, groups_to_come}
 use Rattle.zarrs_chunk_tasks.proofs.PlannedTasks.{gives_plans}
 use Rattle.zarrs_chunk_questions.specs.Pages.{count_of, is_more, page_tree}
-use Rattle.zarrs_chunk_questions.specs.seen.Copies.{copy_of, dimensions_in, key_in}
+use Rattle.zarrs_chunk_questions.specs.seen.Copies.{dimensions_in, key_in}
 use Rattle.zarrs_chunk_questions.proofs.PartsAhead.{keys_in}
 use Rattle.zarrs_chunk_questions.proofs.TaskPages.{as_many_trees, long_tasks_page, still_have, tasks_page}
 use Rattle.zarrs_chunk_questions.proofs.task_pages.tasks_from.Goals as goal

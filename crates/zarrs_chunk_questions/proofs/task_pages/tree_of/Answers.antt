@@ -1,4 +1,4 @@
-use Rattle.std.proofs.Common.{◌≡◌, ◌+◌, ◌≤◌, length, refl, rules, arith}
+use Rattle.std.proofs.Common.{◌≡◌, length, refl, rules, arith}
 use Rattle.zarrs_chunk_plan.proofs.Walked.{planned_meet}
 use Rattle.zarrs_chunk_tasks.specs.Tasks.{TaskPlan}
 use Rattle.zarrs_chunk_questions.specs.seen.Copies.{dimensions_in}

@@ -1,4 +1,4 @@
-use Rattle.std.proofs.Common.{◌∙◌, ap, inl, inr, length, map, option_map, refl, replicate, unwrap_or, ⊎_elim}
+use Rattle.std.proofs.Common.{◌∙◌, ap, inl, inr, map, option_map, refl, replicate, unwrap_or, ⊎_elim}
 use Rattle.std.specs.Int.NonZero.{non_zero_u64_get}
 use Rattle.zarrs_chunk_keys.specs.seen.Encodings.{encoding_in}
 use Rattle.zarrs_chunks.specs.seen.Grids.{grid_in, kind_in}
