@@ -1,6 +1,6 @@
 -- The tasks that a walk gives, each with its parts, and the page of some of them.
-use Rattle.std.proofs.Common.{◌≡◌, ◌∙◌, ℕ, zero, suc, ◌+◌, ◌*◌, ◌-◌, ◌≤◌, List, [], ◌∷◌, ◌++◌, ap, ap₂, append-nil, drop, length, map, min, refl}
-use Rattle.std.proofs.Common.{subst, sym, take, arith}
+use Rattle.std.proofs.Common.{◌≡◌, ◌∙◌, ℕ, zero, suc, ◌+◌, ◌*◌, ◌-◌, ◌≤◌, List, [], ◌∷◌, ◌++◌, Option, ap, ap₂, append-nil, drop, length, map, min, refl}
+use Rattle.std.proofs.Common.{subst, sym, take, unwrap_or, arith}
 use Rattle.std.proofs.Math.Seq.{take-append_seam}
 use Rattle.std.proofs.lemmas.List.{length-map, map-append, take-map, take_all}
 use Rattle.std.proofs.lemmas.Slice.Zip.{AllZip-long}
@@ -10,17 +10,18 @@ use Rattle.serde_json.specs.Data.{Data}
 use Rattle.serde_json.specs.View.{view}
 use Rattle.serde_json.specs.declared.value.Value.{Value}
 use Rattle.zarrs_chunk_base.specs.Greatest.{greatest}
+use Rattle.zarrs_chunk_plan.specs.Counted.{counted}
+use Rattle.zarrs_chunk_plan.proofs.ByNumber.{counted_most}
 use Rattle.zarrs_chunks.specs.declared.chunk_grid.named.ChunkGrid.{ChunkGrid}
 use Rattle.zarrs_chunk_tasks.specs.Tasks.{TaskPlan}
 use Rattle.zarrs_chunk_tasks.specs.declared.task.Task.{Task}
 use Rattle.zarrs_chunk_tasks.specs.declared.walk.Tasks.{Tasks}
-use Rattle.zarrs_chunk_tasks.specs.seen.PlannedTasks.{GivesPlans}
-use Rattle.zarrs_chunk_tasks.specs.seen.Tasks.{IsAboutTasks, groups_to_come}
+use Rattle.zarrs_chunk_tasks.specs.seen.Tasks.{IsAboutTasks, all_groups, groups_to_come}
 use Rattle.zarrs_chunk_tasks.proofs.TasksBegun.{TasksHaveCome, tasks_ahead, zip_follows}
 use Rattle.zarrs_chunk_questions.specs.Pages.{count_of, is_more, page_tree}
 use Rattle.zarrs_chunk_questions.specs.Tasks.{HasTasksOf, IsTasksAnswer, source_dimensions, task_tree}
 use Rattle.zarrs_chunk_questions.specs.declared.copying.Copying.{Copying}
-use Rattle.zarrs_chunk_questions.specs.seen.Copies.{HasPartsBetween, HavePlans, IsPlanOf, Stored, copy_of, dimensions_in, key_in, parts_in, parts_of}
+use Rattle.zarrs_chunk_questions.specs.seen.Copies.{GivesTasksOf, HasPartsBetween, HavePlans, IsPlanOf, Stored, copy_of, dimensions_in, key_in, parts_in, parts_of}
 use Rattle.zarrs_chunk_questions.proofs.Lengths.{text_long}
 use Rattle.zarrs_chunk_questions.proofs.Listed.{all_behind}
 use Rattle.zarrs_chunk_questions.proofs.LongPages.{long_tasks, part_least}
@@ -114,11 +115,15 @@ drop_mapped f (suc n) (x ∷ xs) = drop_mapped f n xs
 
 -- ---- pages
 
-module _ (copying : Copying) (walk gone : Tasks ChunkGrid) (first most count in_all : ℕ) (has : HasTasksOf (copy_of copying))
-    (gives : GivesPlans dimensions_in key_in copying.source copying.target walk copying.order copying.region copying.at.items (copy_of copying).each)
+-- how many groups there are, as far as a number tells it
+pub all_counted : (walk : Tasks ChunkGrid) (said : Option ℕ) (in_all : ℕ) → all_groups walk ≡ groups_to_come walk
+    → said ≡ counted (length (all_groups walk)) → in_all ≡ unwrap_or said greatest → in_all ≡ count_of (groups_to_come walk)
+all_counted walk said in_all all told is =
+    is ∙ counted_most (length (all_groups walk)) said told ∙ ap (λ groups. min (length groups) greatest) all
+
+module _ (copying : Copying) (walk gone : Tasks ChunkGrid) (first : ℕ) (gives : GivesTasksOf copying walk)
     (about : IsAboutTasks walk.grid.now (map non_zero_u64_get walk.each.now) walk.elements walk.first.items walk.at.items gone)
-    (left : groups_to_come gone ≡ drop first (groups_to_come walk)) (counted : in_all ≡ count_of (groups_to_come walk))
-    (wanted : count ≡ min most (in_all - first)) where
+    (left : groups_to_come gone ≡ drop first (groups_to_come walk)) where
   abbrev groups : List (List ℕ)
   groups = groups_to_come walk
 
@@ -138,7 +143,8 @@ module _ (copying : Copying) (walk gone : Tasks ChunkGrid) (first most count in_
   plans_have_parts [] (_ ∷ _) all = absurd all
   plans_have_parts (_ ∷ _) [] all = absurd all
 
-  module _ (plans : List TaskPlan)
+  module _ (most count in_all : ℕ) (has : HasTasksOf (copy_of copying)) (is_all : in_all ≡ count_of (groups_to_come walk))
+      (wanted : count ≡ min most (in_all - first)) (plans : List TaskPlan)
       (are : AllZip (IsPlanOf copying.source copying.target gone) (take count (groups_to_come gone)) plans) where
     abbrev only : List TaskPlan → List Task
     only = map (λ (plan : TaskPlan). plan.0)
@@ -155,7 +161,7 @@ module _ (copying : Copying) (walk gone : Tasks ChunkGrid) (first most count in_
     tasks_page t is =
         let (all, come, same) = some_of_all IsOne first count groups plans gives.have zipped in
         let long : length (only all) ≡ length groups = length-map all (λ (plan : TaskPlan). plan.0) ∙ AllZip-long IsOne groups all come in
-        let as_many : count_of (only all) ≡ in_all = ap (λ n. min n greatest) long ∙ sym counted in
+        let as_many : count_of (only all) ≡ in_all = ap (λ n. min n greatest) long ∙ sym is_all in
         let which : min (count_of (only all) - first) most ≡ count = rw as_many (omega arith) in
         record {
           has = has;

@@ -4,10 +4,10 @@ ghost use Rattle.serde_json.specs.View.{view};
 ghost use Rattle.zarrs_chunk_base.specs.ArraySubset.{IsBox};
 ghost use Rattle.zarrs_chunk_base.specs.Refusal.{OrMemory};
 ghost use Rattle.zarrs_chunks.specs.seen.Grids.{grid_in};
-ghost use Rattle.zarrs_chunk_questions.specs.Refused.{IsNoBoxOf, IsNoCopy};
-ghost use Rattle.zarrs_chunk_questions.specs.Tasks.{IsCopyAsked, region_of};
+ghost use Rattle.zarrs_chunk_questions.specs.Refused.{HasNoTasks, IsNoBoxOf, IsNoCopy};
+ghost use Rattle.zarrs_chunk_questions.specs.Tasks.{HasTasksOf, IsCopyAsked, region_of};
 ghost use Rattle.zarrs_chunk_questions.specs.Trees.{box_of as box_said};
-ghost use Rattle.zarrs_chunk_questions.specs.seen.Copies.{IsNoStored, IsStoredIn, copy_of};
+ghost use Rattle.zarrs_chunk_questions.specs.seen.Copies.{GivesTasksOf, IsNoStored, IsStoredIn, copy_of};
 ghost use Rattle.zarrs_chunk_questions.specs.seen.Read.{copy_asked_of, lists_of};
 
 use crate::asked::{CopyAsked, Lists, TargetArray};
@@ -18,8 +18,9 @@ use std::alloc::Global;
 use std::num::NonZeroU64;
 use zarrs_chunk_base::{ArraySubset, Refusal};
 use zarrs_chunk_keys::ChunkKeyEncoding;
+use zarrs_chunk_plan::laws::all_fit;
 use zarrs_chunk_plan::{StoredArray, whole_array};
-use zarrs_chunk_tasks::{Order, at_or_zeros, task_chunks_or_ones};
+use zarrs_chunk_tasks::{Order, Tasks, at_or_zeros, task_chunks_or_ones, tasks_by};
 use zarrs_chunks::{ChunkGrid, ChunkGridTraits};
 
 /// An array as it is stored, by metadata.
@@ -83,6 +84,32 @@ impl Copying {
             order,
             task_chunks,
         })
+    }
+
+    /// The walk over the copy's tasks.
+    ///
+    /// # Errors
+    /// The copy has no tasks; or out of memory.
+    pub(crate) fn tasks(&self, alloc: Global) -> Result<Tasks<'_, ChunkGrid>, Refusal<LineFault>>
+        ensures { MatchResult result
+            (λ walk. HasTasksOf (copy_of self.now) × GivesTasksOf self.now walk)
+            (OrMemory (HasNoTasks (copy_of self.now))) }
+    {
+        all_fit(self.source.grid.array_shape());
+        all_fit(self.target.grid.array_shape());
+        let (from, into) = (&self.source.grid, &self.target.grid);
+        match tasks_by(
+            alloc,
+            self.order,
+            from,
+            into,
+            &self.region,
+            &self.at,
+            &self.task_chunks,
+        ) {
+            Ok(walk) => Ok(walk),
+            Err(refusal) => Err(refusal.map(LineFault::Tasks)),
+        }
     }
 }
 

@@ -6,8 +6,8 @@ ghost use Rattle.zarrs_chunk_base.specs.Json.{size_tree};
 ghost use Rattle.zarrs_chunk_plan.specs.Counted.{counted};
 ghost use Rattle.zarrs_chunk_plan.specs.Counts.{product};
 ghost use Rattle.zarrs_chunk_tasks.specs.Counts.{count_along};
-ghost use Rattle.zarrs_chunk_questions.specs.Refused.{HasNoCounts, HasNoTasks};
-ghost use Rattle.zarrs_chunk_questions.specs.Tasks.{HasTasksOf, IsCountsAnswer, count_tree as tree_of_count, counts_tree as tree_of_counts, share_tree as tree_of_share};
+ghost use Rattle.zarrs_chunk_questions.specs.Refused.{HasNoCounts};
+ghost use Rattle.zarrs_chunk_questions.specs.Tasks.{IsCountsAnswer, count_tree as tree_of_count, counts_tree as tree_of_counts, share_tree as tree_of_share};
 ghost use Rattle.zarrs_chunk_questions.specs.Trees.{or_null};
 ghost use Rattle.zarrs_chunk_questions.specs.seen.Copies.{copy_of};
 ghost use Rattle.zarrs_chunk_questions.specs.seen.Read.{share_of};
@@ -18,7 +18,7 @@ use serde_json::{Map, Value};
 use std::alloc::{AllocError, Global};
 use zarrs_chunk_base::{ArrayShape, ArraySubset, Refusal, write_list};
 use zarrs_chunk_plan::Share;
-use zarrs_chunk_tasks::{Count, CountsAlong, can_count, task_counts_by, tasks_by};
+use zarrs_chunk_tasks::{Count, CountsAlong, can_count, task_counts_by};
 
 /// The tree of how much the tasks of a copy read and write, and of the numbers of a share's tasks.
 ///
@@ -33,7 +33,7 @@ pub(crate) fn counts_of(
         (λ tree. IsCountsAnswer (copy_of copying.now) (share_of share.now) (view tree))
         (OrMemory (HasNoCounts (copy_of copying.now))) }
 {
-    expect_tasks(alloc, copying)?;
+    copying.tasks(alloc)?;
     let Copying {
         source,
         target,
@@ -49,29 +49,6 @@ pub(crate) fn counts_of(
     }
     match task_counts_by(alloc, *order, from, into, region, at, task_chunks) {
         Ok(counts) => Ok(counts_tree(alloc, &counts, region, share)?),
-        Err(refusal) => Err(refusal.map(LineFault::Tasks)),
-    }
-}
-
-/// Refuses a copy that has no tasks.
-///
-/// # Errors
-/// The copy has no tasks; or out of memory.
-fn expect_tasks(alloc: Global, copying: &Copying) -> Result<(), Refusal<LineFault>>
-    ensures { MatchResult result (λ _. HasTasksOf (copy_of copying.now))
-        (OrMemory (HasNoTasks (copy_of copying.now))) }
-{
-    let Copying {
-        source,
-        target,
-        region,
-        at,
-        order,
-        task_chunks,
-    } = copying;
-    let (from, into) = (&source.grid, &target.grid);
-    match tasks_by(alloc, *order, from, into, region, at, task_chunks) {
-        Ok(_) => Ok(()),
         Err(refusal) => Err(refusal.map(LineFault::Tasks)),
     }
 }

@@ -22,9 +22,8 @@ use std::alloc::{AllocError, Global};
 use zarrs_chunk_base::Refusal;
 use zarrs_chunk_keys::ChunkKeyEncoding;
 use zarrs_chunk_parts::expect_answer;
-use zarrs_chunk_plan::laws::all_fit;
 use zarrs_chunk_plan::{Part, Parts, parts};
-use zarrs_chunk_tasks::{Task, Tasks, tasks_by};
+use zarrs_chunk_tasks::{Task, Tasks};
 use zarrs_chunks::{ChunkGrid, ChunkGridTraits};
 
 /// The tree of the tasks of a copy, from the one with this number on; `None` where they have too many parts. A task is made at a time, and no more of its
@@ -43,32 +42,11 @@ pub(crate) fn tasks_from(
         (IsTasksAnswer (copy_of copying.now) first limits.now.most))
         (OrMemory (HasNoTasks (copy_of copying.now))) }
 {
-    let Copying {
-        source,
-        target,
-        region,
-        at,
-        order,
-        task_chunks,
-    } = copying;
-    all_fit(source.grid.array_shape());
-    all_fit(target.grid.array_shape());
-    let found = tasks_by(
-        alloc,
-        *order,
-        &source.grid,
-        &target.grid,
-        region,
-        at,
-        task_chunks,
-    );
-    let mut walk = match found {
-        Ok(walk) => walk,
-        Err(refusal) => return Err(refusal.map(LineFault::Tasks)),
-    };
+    let mut walk = copying.tasks(alloc)?;
     let in_all = walk.in_all().unwrap_or(u64::MAX);
     let most = limits.most.min(in_all.saturating_sub(first));
     walk.skip_to(first)?;
+    let (source, target) = (&copying.source, &copying.target);
     let too_many = limits.too_many;
     let Some(trees) = task_trees(alloc, source, target, &mut walk, most as usize, too_many)? else {
         return Ok(None);

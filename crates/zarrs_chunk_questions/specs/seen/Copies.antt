@@ -70,6 +70,11 @@ IsPlanOf = planned.IsPlanOf dimensions_in key_in
 abbrev pub HavePlans : (source target : Stored) → Tasks ChunkGrid → List (List ℕ) → Type 0
 HavePlans = planned.HavePlans dimensions_in key_in
 
+-- a walk at its beginning: what it has to give are the tasks of the copy, with their parts
+abbrev pub GivesTasksOf : Copying → Tasks ChunkGrid → Type 0
+GivesTasksOf copying walk =
+    planned.GivesPlans dimensions_in key_in copying.source copying.target walk copying.order copying.region copying.at.items (copy_of copying).each
+
 -- how many parts a task has, and how many tasks have together
 abbrev pub parts_of : TaskPlan → ℕ
 parts_of plan = length plan.1.0 + length plan.1.1

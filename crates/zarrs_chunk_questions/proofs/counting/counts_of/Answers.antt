@@ -4,7 +4,7 @@ use Rattle.zarrs_chunk_questions.proofs.counting.counts_of.Goals as goal
 pub returns-then-not-can : goal.returns-then-not-can
 returns-then-not-can c =
     let many = rw c.deref.ensures.value at c.in_ok-can.ensures in
-    inr (c.in_ok-expect_tasks.ensures, refl, many c.if-not-can.true)
+    inr (c.in_ok-tasks.ensures.0, refl, many c.if-not-can.true)
 
 pub returns-in_ok-counts_tree-in-Ok : goal.returns-in_ok-counts_tree-in-Ok
 returns-in_ok-counts_tree-in-Ok c =
