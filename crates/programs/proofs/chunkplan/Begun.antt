@@ -1,6 +1,6 @@
 -- What a share of a walk gives is a share of what the walk would have given.
-use Rattle.programs.proofs.chunkplan.Common.{◌≡◌, List, ◌++◌, length, IsBox, ChunkKeyEncoding, IsPart, Meets, Part, share_of}
-use Rattle.programs.proofs.chunkplan.Common.{Share, Parts, HasKeys, IsAbout, chunks_to_come, have_parts, HaveCome, ChunkGrid, chained_in}
+use Rattle.programs.proofs.chunkplan.Common.{◌≡◌, List, length, IsBox, ChunkKeyEncoding, IsPart, Meets, Part, share_of}
+use Rattle.programs.proofs.chunkplan.Common.{Share, Parts, IsAbout, chunks_to_come, have_parts, ChunkGrid, chained_in}
 use Rattle.zarrs_chunk_plan.proofs.ShareLists.{all_of_share, of_all}
 use Rattle.zarrs_chunk_questions.proofs.PartsAhead.{keys_in}
 use Rattle.programs.specs.chunkplan.seen.Opened.{CanGiveParts, PartsToCome, dimensions_in, key_in}

@@ -3,7 +3,7 @@
 use Rattle.std.specs.Prelude.{◌≡◌, ◌≢◌, ◌⊎◌, ◌<◌, ◌∷◌}
 use Rattle.programs.specs.chunkplan.Common.{ℕ, Bool, List, [], length, map, pred, replicate, slice_get, unwrap_or, AllByRecursion, Option, None, Some, Result, Ok, Err}
 use Rattle.programs.specs.chunkplan.Common.{Contains, non_zero_u64_get, Box, IsEmptyBox, Dimension, array_sizes, IsKey, default_keys, grid_kind}
-use Rattle.programs.specs.chunkplan.Common.{regular, array_box, IsRegionFault, RegionError, Order, Source, Target, RunFault, NoSuchStage}
+use Rattle.programs.specs.chunkplan.Common.{regular, array_box, IsRegionFault, RegionError, Order, Target, RunFault, NoSuchStage}
 use Rattle.programs.specs.chunkplan.Common.{NoTasksFit, SeveralStages, TooManyToChoose, TooManyToCount, CopyTask, CountsAlong, TaskPlan, TasksError, moved}
 use Rattle.std.specs.List.{AllZip}
 use Rattle.zarrs_chunk_base.specs.Grid.{Grid}

@@ -58,7 +58,15 @@ pub(crate) fn tasks_of<'a>(alloc: Global, stage: &Stage<'a>) -> Result<OpenedTas
     all_fit(stage.target.grid.array_shape());
     let (from, into) = (&stage.source.grid, &stage.target.grid);
     let at = stage.at.as_slice();
-    Ok(tasks_by(alloc, stage.order, from, into, &stage.region, at, stage.each)?)
+    Ok(tasks_by(
+        alloc,
+        stage.order,
+        from,
+        into,
+        &stage.region,
+        at,
+        stage.each,
+    )?)
 }
 
 /// Sends the lines of a share of all tasks that a walk gives, which is at its beginning. A task is left out if all chunks that it writes are known to be stored,

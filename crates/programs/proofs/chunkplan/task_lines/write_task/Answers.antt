@@ -1,13 +1,13 @@
-use Rattle.programs.proofs.chunkplan.Common.{◌≡◌, ◌∙◌, ℕ, Bool, true, false, List, [], ◌++◌, IfOk, Option, Err, Ok, Result, Vec, AllocError, append_assoc, inl, refl, sym, IsBox}
-use Rattle.programs.proofs.chunkplan.Common.{Box, ChunkGrid, ChunkKeyEncoding, IsPlan, Part, Parts, at_first, counted, lines_from, begin_of_task, end_of_task}
-use Rattle.programs.proofs.chunkplan.Common.{item_text, middle_of_task, option_map, overlap_json, plan_of, StoredChunks, TaskPlan, sends_nothing, written}
+use Rattle.programs.proofs.chunkplan.Common.{◌≡◌, ◌∙◌, ℕ, Bool, true, false, List, [], ◌++◌, IfOk, Option, Err, Ok, Result, Vec, AllocError, append_assoc, inl, refl, sym}
+use Rattle.programs.proofs.chunkplan.Common.{Box, ChunkGrid, ChunkKeyEncoding, IsPlan, Part, Parts, counted, lines_from, begin_of_task, end_of_task}
+use Rattle.programs.proofs.chunkplan.Common.{item_text, middle_of_task, option_map, overlap_json, StoredChunks, TaskPlan, sends_nothing, written}
 use Rattle.std.specs.declared.alloc.Global.{Global}
 use Rattle.zarrs_chunk_plan.specs.declared.stored_array.StoredArray.{StoredArray}
 use Rattle.zarrs_chunk_plan.specs.seen.Parts.{IsPlanned}
 use Rattle.zarrs_chunk_plan.proofs.Walked.{planned_meet}
 use Rattle.zarrs_chunk_tasks.specs.declared.task.Task.{Task}
 use Rattle.programs.specs.chunkplan.seen.Missing.{is_left_out, line_unless_stored}
-use Rattle.programs.specs.chunkplan.seen.Opened.{PartsToCome, dimensions_in, dimensions_of, key_in, key_of}
+use Rattle.programs.specs.chunkplan.seen.Opened.{PartsToCome, dimensions_in, dimensions_of, key_of}
 use Rattle.programs.specs.chunkplan.seen.PlannedTasks.{HasPartsOf}
 use Rattle.programs.specs.chunkplan.seen.Steps.{IsMade}
 use Rattle.zarrs_chunk_questions.proofs.PartsAhead.{its_parts, its_plan}
