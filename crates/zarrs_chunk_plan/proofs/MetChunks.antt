@@ -1,11 +1,10 @@
 -- How many chunks of the source share elements with a chunk of the target: what is found of a cover is what is computed.
-use Rattle.zarrs_chunk_plan.proofs.Common.{◌≡◌, ◌∙◌, ◌↔◌, ℕ, zero, suc, ◌+◌, ◌-◌, ◌<◌, ◌≤◌, List, [], ◌∷◌, Contains, IsTrue, length, refl, ap, ap₂}
-use Rattle.zarrs_chunk_plan.proofs.Common.{subst, sym, ⊎_elim, arith, cases_lt, le-ltb, lt-ltb, AllByRecursion, AreWithin, Box, IsInside, lasts}
-use Rattle.zarrs_chunk_plan.proofs.Common.{Dimension, Holds, InBox, IsChain, counted_from, earlier_has, no_later, head_some, tail_some, Meets}
-use Rattle.zarrs_chunk_plan.proofs.Common.{TakesSome, counters_from, met, met_by, taken, taken_from}
+use Rattle.zarrs_chunk_plan.proofs.Common.{◌≡◌, ◌∙◌, ℕ, zero, suc, ◌+◌, ◌-◌, ◌<◌, ◌≤◌, IsTrue, refl, ap}
+use Rattle.zarrs_chunk_plan.proofs.Common.{subst, ⊎_elim, arith, cases_lt, le-ltb, lt-ltb}
+use Rattle.zarrs_chunk_plan.proofs.Common.{Dimension, Holds, IsChain, earlier_has, no_later}
+use Rattle.zarrs_chunk_plan.proofs.Common.{met}
 use Rattle.zarrs_chunks.proofs.Chains.{apart, at_most_start}
-use Rattle.zarrs_chunk_plan.specs.seen.Sources.{home, home_from, taken_sizes, taken_starts}
-use Rattle.zarrs_chunk_plan.proofs.TakenBoxes.{AllTakeSome}
+use Rattle.zarrs_chunk_plan.specs.seen.Sources.{home, home_from}
 
 -- ---- one dimension
 

@@ -1,7 +1,7 @@
 -- Boxes that lie in an array.
 use Rattle.zarrs_chunk_plan.proofs.Common.{◌≡◌, ◌≢◌, ◌↔◌, ℕ, suc, ◌+◌, ◌≤◌, List, [], ◌∷◌, Contains, length, replicate, zip, refl, ap, arith, subst}
 use Rattle.zarrs_chunk_plan.proofs.Common.{sym, length-map, AllByRecursion, AreWithin, Box, IsBox, IsEmptyBox, Dimension, array_sizes, AllFit}
-use Rattle.zarrs_chunk_plan.proofs.Common.{AreBelow, array_box, CanBeMoved, EndWithin, lasts, zero_box, head_some, tail_some}
+use Rattle.zarrs_chunk_plan.proofs.Common.{AreBelow, EndWithin, lasts, zero_box, head_some, tail_some}
 use Rattle.zarrs_chunk_plan.specs.Region.{LiesIn}
 
 -- each range ends within the array exactly where all do

@@ -1,8 +1,7 @@
 -- Products of one number from each of some lists: their sum, and the greatest of them.
 use Rattle.zarrs_chunk_plan.proofs.Common.{◌≡◌, ◌∙◌, ℕ, zero, suc, ◌+◌, ◌*◌, ◌<◌, ◌≤◌, List, [], ◌∷◌, ◌++◌, fold, length, map, max, refl, ap, ap₂}
-use Rattle.zarrs_chunk_plan.proofs.Common.{sym, ⊎_elim, arith, mul_comm, cases_lt, sum_by-cons, flat_map, range_with_len, sum, Box, IsEmptyBox}
+use Rattle.zarrs_chunk_plan.proofs.Common.{sym, ⊎_elim, arith, mul_comm, cases_lt, sum_by-cons, flat_map, range_with_len, sum}
 use Rattle.zarrs_chunk_plan.proofs.Common.{row_major, rows, chunks_in, counted_from, product, met_by, met_in}
-use Rattle.zarrs_chunk_plan.proofs.shares.Between.{none_below}
 
 abbrev pub times_each : ℕ → List ℕ → List ℕ
 times_each x = map (λ p. x * p)

@@ -1,12 +1,10 @@
 -- The whole array, which a rechunking copies to where it is.
 use Rattle.zarrs_chunk_plan.proofs.Common.{◌≡◌, ◌↔◌, ◌∙◌, ℕ, zero, suc, ◌+◌, List, [], ◌∷◌, length, map, replicate, refl, ap, ap₂, subst}
-use Rattle.zarrs_chunk_plan.proofs.Common.{sym, arith, length-map, AllByRecursion, AreWithin, Box}
+use Rattle.zarrs_chunk_plan.proofs.Common.{arith, AllByRecursion, AreWithin, Box}
 use Rattle.zarrs_chunk_plan.proofs.Common.{IsInside, Dimension, Holds, IsChain, array_sizes, within_lengths, length_values, AreBelow}
-use Rattle.zarrs_chunk_plan.proofs.Common.{counted_from, same_box, length_below, counted_home, IsCommon, IsPart, IsPlan, Meets}
-use Rattle.zarrs_chunk_plan.proofs.Common.{all_chunks_box, array_box, shifted, Part}
+use Rattle.zarrs_chunk_plan.proofs.Common.{counted_from, same_box, counted_home, IsCommon, Meets}
+use Rattle.zarrs_chunk_plan.proofs.Common.{all_chunks_box, array_box}
 use Rattle.zarrs_chunk_parts.specs.Plan.{AreShared}
-use Rattle.zarrs_chunk_plan.specs.Region.{IsDestination}
-use Rattle.zarrs_chunk_plan.proofs.Plans.{all_long}
 
 -- ---- the whole array
 

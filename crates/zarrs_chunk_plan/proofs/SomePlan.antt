@@ -2,13 +2,12 @@
 use Rattle.zarrs_chunk_plan.proofs.Common.{◌≡◌, ◌≢◌, ◌∙◌, ℕ, suc, ◌+◌, ◌-◌, ◌<◌, ◌≤◌, List, [], ◌∷◌, ap, ap₂, length, map, refl, subst, sym, ⊎_elim, arith}
 use Rattle.zarrs_chunk_plan.proofs.Common.{AllByRecursion, AllZip, Box, IsBox, IsEmptyBox, IsInside, zero_box, ends, lasts, Dimension, Holds, InBox, IsChain}
 use Rattle.zarrs_chunk_plan.proofs.Common.{IsShape, array_sizes, AllFit, greatest, AreBelow, IsCover, chunks_in, are_those_inside, inside_fits}
-use Rattle.zarrs_chunk_plan.proofs.Common.{counted_home, cover_meets, IsPart, IsPlan, Meets, Part, HasKeys}
+use Rattle.zarrs_chunk_plan.proofs.Common.{counted_home, IsPart, IsPlan, Meets, Part, HasKeys}
 use Rattle.zarrs_chunk_base.proofs.InEach.{by_dimension}
 use Rattle.zarrs_chunks.proofs.Boxes.{has_origin}
 use Rattle.zarrs_chunks.proofs.Covers.{chunks_small, firsts_before_lasts, in_order, is_cover, lasts_small}
 use Rattle.zarrs_chunks.proofs.UpTo.{ones_fit}
 use Rattle.zarrs_chunk_plan.proofs.Plans.{chunk_of, covers_none, covers_some, empty_or_some, meet_each, none_in_zeros, not_empty_if_inside}
-use Rattle.zarrs_chunk_plan.proofs.SameBoxes.{same_box_of}
 use Rattle.zarrs_chunk_parts.specs.Plan.{Covers}
 use Rattle.zarrs_chunk_plan.proofs.counts.Written.{first_within, last_within}
 use Rattle.zarrs_chunk_parts.proofs.Shares.{boxes_are, from_chunk, from_start, has_all_of}

@@ -1,12 +1,10 @@
 -- What there is of some of the chunks in a list, from one of them on.
 use Rattle.zarrs_chunk_plan.proofs.Common.{◌≡◌, ◌∙◌, ℕ, zero, suc, ◌+◌, ◌-◌, ◌≤◌, List, [], ◌∷◌, ◌++◌, Some, drop, get_or, length, min, take, refl}
-use Rattle.zarrs_chunk_plan.proofs.Common.{ap, subst, sym, arith, length-drop, get_or_from_slice_get, slice_get_within, drop-nil, AllByRecursion}
-use Rattle.zarrs_chunk_plan.proofs.Common.{AllZip, slice_get, Box, Dimension, greatest, row_major, chunks_in, IsPart}
+use Rattle.zarrs_chunk_plan.proofs.Common.{ap, subst, sym, arith, length-drop, get_or_from_slice_get, slice_get_within, AllByRecursion}
+use Rattle.zarrs_chunk_plan.proofs.Common.{AllZip, slice_get, Box, greatest, row_major, chunks_in}
 use Rattle.std.proofs.lemmas.List.{get_or-drop}
 use Rattle.std.proofs.lemmas.Slice.Zip.{all_zipped_more}
-use Rattle.std.proofs.Math.Seq.{take-nil, take-suc}
-use Rattle.zarrs_chunk_plan.specs.SomeParts.{AreSomeParts}
-use Rattle.zarrs_chunk_plan.specs.declared.read.numbered_parts.SomeParts.{SomeParts}
+use Rattle.std.proofs.Math.Seq.{take-suc}
 use Rattle.zarrs_chunk_plan.proofs.ByNumber.{as_many}
 
 -- what holds of each holds at a place

@@ -1,5 +1,5 @@
 -- A chunk that is whole in one task is in no other one; and the tasks of the copy the other way round.
-use Rattle.std.proofs.Common.{◌≡◌, ℕ, Contains, List, [], ◌∷◌, get_or, map, refl, subst, sym, ⊎_elim, arith}
+use Rattle.std.proofs.Common.{ℕ, Contains, List, [], ◌∷◌, get_or, map, refl, subst, sym, ⊎_elim, arith}
 use Rattle.std.proofs.lemmas.List.Elements.{Contains-get_or}
 use Rattle.std.specs.List.{AllByRecursion, AllPairs, AllZip}
 use Rattle.zarrs_chunk_base.specs.ArraySubset.{Box, IsInside}

@@ -1,6 +1,6 @@
 -- Lists that are made of other lists, one after another: what is in them, and what holds of each two of it.
-use Rattle.zarrs_chunk_plan.proofs.Common.{◌↔◌, ◌⊎◌, zero, suc, List, [], ◌∷◌, ◌++◌, Contains, get_or, map, refl, subst, sym, ⊎_elim, arith, AllPairs}
-use Rattle.zarrs_chunk_plan.proofs.Common.{flat_map, Contains-append_cases, Contains-append_left, Contains-append_right, Contains-get_or, source_of}
+use Rattle.zarrs_chunk_plan.proofs.Common.{◌↔◌, ◌⊎◌, zero, suc, List, [], ◌∷◌, ◌++◌, Contains, get_or, map, refl, subst, ⊎_elim, arith, AllPairs}
+use Rattle.zarrs_chunk_plan.proofs.Common.{Contains-append_cases, Contains-append_left, Contains-append_right, Contains-get_or, source_of}
 use Rattle.std.proofs.lemmas.List.Elements.{All-append}
 use Rattle.std.proofs.lemmas.List.Kept.{AllPairs-cons}
 

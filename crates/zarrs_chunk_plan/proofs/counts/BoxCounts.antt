@@ -1,5 +1,5 @@
 -- How many lists a box has.
-use Rattle.zarrs_chunk_plan.proofs.Common.{◌≡◌, ◌↔◌, ◌∙◌, ℕ, zero, suc, ◌*◌, List, [], ◌∷◌, Contains, length, ap, refl, arith, Box, IsBox, IsInside}
+use Rattle.zarrs_chunk_plan.proofs.Common.{◌≡◌, ◌↔◌, ◌∙◌, ℕ, ◌*◌, List, [], ◌∷◌, length, ap, refl, Box, IsBox, IsInside}
 use Rattle.zarrs_chunk_plan.proofs.Common.{row_major, chunks_in, are_those_inside, chunks_once, AreMany, product}
 use Rattle.zarrs_chunk_plan.proofs.ByNumber.{as_many, length-shape}
 

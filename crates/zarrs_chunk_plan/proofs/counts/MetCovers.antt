@@ -1,13 +1,7 @@
 -- The elements of no chunks.
-use Rattle.zarrs_chunk_plan.proofs.Common.{◌≡◌, ◌≢◌, ◌↔◌, ◌∙◌, ℕ, zero, suc, ◌<◌, List, [], get_or, length, refl, ap, sym, arith, length-map}
-use Rattle.zarrs_chunk_plan.proofs.Common.{AllByRecursion, Box, IsBox, IsEmptyBox, IsInside, zero_box, Dimension, Holds, InBox, IsChain, array_sizes}
-use Rattle.zarrs_chunk_plan.proofs.Common.{within_lengths, length_values, AreBelow, IsCover, counted_from, Meets, shifted, counters}
-use Rattle.zarrs_chunk_plan.proofs.Common.{met_by, met_in}
-use Rattle.zarrs_chunk_parts.specs.Plan.{AreShared}
-use Rattle.zarrs_chunk_plan.specs.seen.Sources.{taken_sizes, taken_starts}
-use Rattle.zarrs_chunk_plan.proofs.SharedBoxes.{as_many, sizes_are, starts_are}
-use Rattle.zarrs_chunk_plan.proofs.TakenBoxes.{meets_take}
-use Rattle.zarrs_chunk_plan.proofs.MovedBoxes.{within_long, within_starts}
+use Rattle.zarrs_chunk_plan.proofs.Common.{◌≡◌, ◌≢◌, ◌↔◌, ℕ, zero, suc, List, length, refl, arith}
+use Rattle.zarrs_chunk_plan.proofs.Common.{Box, IsBox, IsEmptyBox, IsInside, zero_box, Dimension, InBox, array_sizes}
+use Rattle.zarrs_chunk_plan.proofs.Common.{AreBelow}
 use Rattle.zarrs_chunk_plan.proofs.Plans.{none_below, not_empty_if_inside}
 
 -- some ranges from 0 to 0 hold nothing

@@ -1,8 +1,6 @@
 -- One dimension of a list of them.
-use Rattle.zarrs_chunk_plan.proofs.Common.{◌≡◌, ℕ, zero, suc, ◌+◌, ◌-◌, ◌<◌, ◌≤◌, List, [], ◌∷◌, arith, length, min, slice_index_or, subst, sym}
-use Rattle.zarrs_chunk_plan.proofs.Common.{AllByRecursion, ends, Dimension, Holds, IsChain, array_sizes, AllFit, Along, IsRange, no_later, EndWithin}
-use Rattle.zarrs_chunk_plan.proofs.Common.{TakesSome, counters_from, met, met_along, met_in, taken, taken_from}
-use Rattle.zarrs_chunk_plan.proofs.MetChunks.{met_at_most, met_is}
+use Rattle.zarrs_chunk_plan.proofs.Common.{ℕ, zero, suc, List, [], ◌∷◌}
+use Rattle.zarrs_chunk_plan.proofs.Common.{AllByRecursion, Dimension, IsChain, Along}
 
 -- ---- the dimension of a number, which has a property
 

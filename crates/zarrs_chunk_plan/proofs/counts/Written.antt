@@ -1,12 +1,6 @@
 -- The chunks of the target that take some of a box: what they hold of it, along each dimension and all together.
-use Rattle.zarrs_chunk_plan.proofs.Common.{◌≡◌, ◌∙◌, ℕ, zero, suc, ◌+◌, ◌-◌, ◌<◌, ◌≤◌, List, [], ◌∷◌, Contains, IsTrue, fold, length, map, max, refl}
-use Rattle.zarrs_chunk_plan.proofs.Common.{ap, subst, arith, range_with_len, sum, AreWithin, lasts, Dimension, IsChain, head_some, tail_some}
-use Rattle.zarrs_chunk_plan.proofs.Common.{TakesSome, counters_from, met_along, met_in, taken, taken_from}
-use Rattle.std.proofs.lemmas.List.FromFn.{map-range_with_len_more}
-use Rattle.std.proofs.lemmas.List.Sums.{sum_by_push}
-use Rattle.zarrs_chunk_plan.specs.seen.Sources.{RangeTakes}
-use Rattle.zarrs_chunk_plan.proofs.MetChunks.{met_at_most}
-use Rattle.zarrs_chunk_plan.proofs.TakenBoxes.{AllTakeSome}
+use Rattle.zarrs_chunk_plan.proofs.Common.{◌≡◌, ℕ, List, [], ◌∷◌, Contains, length}
+use Rattle.zarrs_chunk_plan.proofs.Common.{arith, AreWithin, lasts, head_some, tail_some}
 
 -- ---- along each dimension
 

@@ -1,12 +1,8 @@
 -- How many chunks hold some of a range, and what a chunk holds of it, dimension by dimension.
-use Rattle.std.specs.Prelude.{◌≡◌, ℕ, zero, suc, ◌+◌, ◌-◌, ◌<◌, ◌≤◌, IsTrue, List, [], ◌∷◌, cond, fold, length, map, max, min, nat_lt}
-use Rattle.std.specs.List.{range_with_len, sum}
-use Rattle.zarrs_chunk_base.specs.ArraySubset.{Box, IsBox, IsInside}
-use Rattle.zarrs_chunk_base.specs.Dimension.{Dimension, array_sizes}
-use Rattle.zarrs_chunk_base.specs.Greatest.{greatest}
-use Rattle.zarrs_chunk_axes.specs.Along.{Along}
-use Rattle.zarrs_chunk_parts.specs.Plan.{Meets}
-use Rattle.zarrs_chunk_plan.specs.Region.{LiesIn}
+use Rattle.std.specs.Prelude.{ℕ, zero, suc, ◌+◌, ◌-◌, ◌<◌, ◌≤◌, IsTrue, List, [], ◌∷◌, cond, map, max, min, nat_lt}
+use Rattle.std.specs.List.{range_with_len}
+use Rattle.zarrs_chunk_base.specs.ArraySubset.{Box}
+use Rattle.zarrs_chunk_base.specs.Dimension.{Dimension}
 
 -- the chunk that holds an index, looked for among so many from a first one on
 abbrev pub home_from : Dimension → (many first index : ℕ) → ℕ
