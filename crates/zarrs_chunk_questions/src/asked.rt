@@ -210,7 +210,7 @@ fn task_order(tree: &Value) -> Result<Order, Refusal<Unreadable>>
     }
 }
 
-/// The share that a line asks for: its member `share`, the number of the share and how many there are; where it has none, all.
+/// The share that a line asks for: its member `share`, the number of the share and how many there are; all if the member is missing.
 ///
 /// # Errors
 /// `share` isn't two sizes, or there is no share with the number. Or out of memory.

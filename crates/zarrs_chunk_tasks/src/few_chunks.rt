@@ -1,6 +1,5 @@
 //! Whether a copy has few enough chunks to choose its tasks, and to count them.
-ghost use Rattle.std.specs.Prelude.{◌≡◌, ◌<◌};
-ghost use Rattle.std.specs.Prelude.{ℕ, IfOk, false};
+ghost use Rattle.std.specs.Prelude.{◌≡◌, ◌<◌, ℕ, IfOk, false};
 ghost use Rattle.std.specs.List.{Contains};
 ghost use Rattle.zarrs_chunk_plan.specs.Region.{moved};
 ghost use Rattle.zarrs_chunk_tasks.specs.Few.{HasMany, HaveMany, most_to_choose, most_to_count};
