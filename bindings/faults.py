@@ -96,9 +96,9 @@ def offsets_of(texts):
 
 def seen_parts(parts):
     """What the Python package answers of a plan, as `chunkcalls` and the model have it."""
-    lists = (part.tolist() for part in (parts.chunks, parts.in_chunk, parts.in_subset, parts.shapes))
+    lists = (part.tolist() for part in (parts.chunks, parts.in_chunk, parts.in_selection, parts.shapes))
     return [
-        {"chunk": chunk, "in_chunk": [place, shape], "in_subset": [start, shape], "key": key}
+        {"chunk": chunk, "in_chunk": [place, shape], "in_selection": [start, shape], "key": key}
         for chunk, place, start, shape, key in zip(*lists, parts.keys)
     ]
 
@@ -186,7 +186,7 @@ def plan_call(rng, dimensions):
     lists = {
         "chunks": [part["chunk"] for part in parts],
         "in_chunk": [part["in_chunk"][0] for part in parts],
-        "in_subset": [part["in_subset"][0] for part in parts],
+        "in_selection": [part["in_selection"][0] for part in parts],
         "shapes": [part["in_chunk"][1] for part in parts],
     }
 

@@ -834,7 +834,7 @@ def changed(tally):
         array, other, both = rng.integers(1, 1000, shape), np.full(resized, -1), tuple(slice(min(pair)) for pair in zip(shape, resized))
         other[both] = array[both]
         was, now = padded(array, edges), padded(other, edges)
-        right = {"delete": was.keys() - now.keys(), "keep": set(), "new": now.keys() - was.keys(), "rewrite": set()}
+        right = {"delete": was.keys() - now.keys(), "keep": set(), "create": now.keys() - was.keys(), "rewrite": set()}
         for chunk in was.keys() & now.keys():
             right["keep" if np.array_equal(was[chunk], now[chunk]) else "rewrite"].add(chunk)
         found, lists = Grid(shape, regular(*edges)).changed_chunks(resized), {what: [*map(list, chunks)] for what, chunks in right.items()}
@@ -880,9 +880,9 @@ def changes_of_program(tally):
         shape = [generator.random.randrange(40) for _ in range(generator.random.randrange(4))]
         resized = [generator.random.randrange(40) for _ in shape]
         metadata = generator.grid_over([max(pair) for pair in zip(shape, resized)], generator.random.choice(["regular", "zarrs.regular_bounded", "rectilinear"]))
-        document = {"shape": shape, "chunk_grid": metadata, "chunk_key_encoding": "v2", "resize": resized, "keep": True}
+        document = {"shape": shape, "chunk_grid": metadata, "chunk_key_encoding": "v2", "resize": resized, "include_unchanged": True}
         ended = subprocess.run([CHUNKPLAN], input=json.dumps(document).encode(), capture_output=True)
-        lists = {what: [] for what in ("delete", "keep", "new", "rewrite")}
+        lists = {what: [] for what in ("create", "delete", "keep", "rewrite")}
         for line in map(json.loads, ended.stdout.splitlines()):
             lists[line["what"]].append(line["chunk"])
         found = plain(Grid(shape, metadata).changed_chunks(resized))

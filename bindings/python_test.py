@@ -100,7 +100,7 @@ def unfit_arguments(tally):
         tally.same(f"a size of {number}", kind_of_error(lambda: _library.call("zarrs_prepared_keys_of", dimensionality=number, **keys)), TypeError)
     plan = {
         "array": {"shape": shape, "chunk_grid": text, "chunk_key_encoding": b'"v2"'}, "elements": {"start": shape, "shape": shape}, "first": 0,
-        "buffers": {name: _library.room(2) for name in ("chunks", "in_chunk", "in_subset", "shapes", "offsets")} | {"text": _library.text_room(9)},
+        "buffers": {name: _library.room(2) for name in ("chunks", "in_chunk", "in_selection", "shapes", "offsets")} | {"text": _library.text_room(9)},
     }  # fmt: skip
     for struct, name, value in (("array", "shape", [5, 7]), ("array", "chunk_grid", "text"), ("elements", "start", None), ("buffers", "chunks", frozen)):
         words = f"{name}: the library can't be given this {type(value).__name__}"

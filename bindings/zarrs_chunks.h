@@ -222,7 +222,7 @@ struct zarrs_element_box {
 struct zarrs_part_buffers {
     uint64_t *chunks; size_t chunks_len; /* n * d: the chunk of each part */
     uint64_t *in_chunk; size_t in_chunk_len; /* n * d: the part's first element, counted from that of the chunk */
-    uint64_t *in_subset; size_t in_subset_len; /* n * d: the same, counted from that of the box */
+    uint64_t *in_selection; size_t in_selection_len; /* n * d: the same, counted from that of the box */
     uint64_t *shapes; size_t shapes_len; /* n * d: the part's shape */
     uint8_t *text; size_t text_len; /* the keys of the chunks, as zarrs_prepared_keys_of writes them */
     uint64_t *offsets; size_t offsets_len; /* n + 1: where each key begins in the text, and at last where the last one ends */

@@ -496,7 +496,7 @@ def box_of_array(draw, numpy, written):
             return False
         for part in answer["items"]:
             expected = numpy.zeros(written.edges, dtype="<u4")
-            expected[slices(part["in_chunk"])] = values[slices(part["in_subset"])]
+            expected[slices(part["in_chunk"])] = values[slices(part["in_selection"])]
             if not numpy.array_equal(expected, chunks[part["key"]]):
                 return False
         return True
@@ -527,7 +527,7 @@ def resized_array(draw, written):
     def is_as_stored(answer):
         found = {what: [*map(tuple, chunks)] for what, chunks in chunks_by_numbers(answer).items()}
         both = found["keep"] + found["rewrite"]
-        return [sorted(both), sorted(found["delete"]), sorted(found["new"])] == [sorted(left), sorted(before - left), sorted(after - left)]
+        return [sorted(both), sorted(found["delete"]), sorted(found["create"])] == [sorted(left), sorted(before - left), sorted(after - left)]
 
     return {"call": "changed_chunks", "resize": shape}, is_as_stored
 

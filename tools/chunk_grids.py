@@ -216,7 +216,7 @@ class Grid:
         return {
             "chunk": chunk,
             "in_chunk": [[begin - s for begin, s in zip(begins, starts)], sizes],
-            "in_subset": [[begin - s for begin, s in zip(begins, start)], sizes],
+            "in_selection": [[begin - s for begin, s in zip(begins, start)], sizes],
             "key": encoding.key(chunk),
         }
 

@@ -18,7 +18,7 @@ from extensions import GREATEST, GRIDS, Refused
 from random_arrays import Generator
 
 # What becomes of a chunk, in the order of the words.
-CHANGES = ("delete", "keep", "new", "rewrite")
+CHANGES = ("create", "delete", "keep", "rewrite")
 
 
 def box_of(places):
@@ -83,9 +83,9 @@ def read(grid, encoding, start, shape, clip=False):
     parts = boxes(moved())
     shape_of = shapes(grid, [chunk for chunk, *_ in parts])
     return numbered([
-        {"chunk": list(chunk), "in_chunk": in_chunk, "in_subset": in_subset, "key": encoding.key(chunk),
+        {"chunk": list(chunk), "in_chunk": in_chunk, "in_selection": in_selection, "key": encoding.key(chunk),
          "shape": shape_of[chunk], "whole": chunk not in missed}
-        for chunk, in_chunk, in_subset in parts
+        for chunk, in_chunk, in_selection in parts
     ])  # fmt: skip
 
 
@@ -185,7 +185,7 @@ def beside(lines, target, keys):
     grid, encoding = target
     held = {encoding.key(home(grid, index)[0]) for index in elements(grid.shape)}
     left = [line for line in lines if not all(piece["whole"] and piece["key"] in keys for piece in line["to"])]
-    return left + [{"foreign": key} for key in keys if key not in held]
+    return left + [{"unexpected": key} for key in keys if key not in held]
 
 
 def tasks_by_boxes(source, target, box, at, each, by_source=False, begin_with=0):
@@ -220,7 +220,7 @@ def place_of(number, counts):
 
 def as_piece(part, grid):
     """A part of the plan of a buffer's box, as a line of a task has it."""
-    return {**{name: part[name] for name in ("chunk", "in_chunk", "key")}, "in_buffer": part["in_subset"], "shape": grid.chunk_shape(part["chunk"])}
+    return {**{name: part[name] for name in ("chunk", "in_chunk", "key")}, "in_buffer": part["in_selection"], "shape": grid.chunk_shape(part["chunk"])}
 
 
 def held_by(grid, chunk):
@@ -265,7 +265,7 @@ def changes(was, now, chunks, encoding, keep):
     lines = []
     for chunk in chunks:
         here, there = was.get(chunk), now.get(chunk)
-        what = "new" if here is None else "delete" if there is None else "keep" if here == there else "rewrite"
+        what = "create" if here is None else "delete" if there is None else "keep" if here == there else "rewrite"
         if keep or what != "keep":
             (was_box, was_shape), (now_box, now_shape) = here or (None, None), there or (None, None)
             lines.append({"chunk": list(chunk), "key": encoding.key(chunk), "now": now_box, "now_shape": now_shape,
@@ -317,7 +317,7 @@ def chunks_by_numbers(answer):
     for chunk in itertools.product(*map(range, map(max, answer["after"], answer["before"]))):
         after, before, kept = (all(map(operator.lt, chunk, answer[numbers])) for numbers in ("after", "before", "kept"))
         if after or before:
-            found["new" if not before else "delete" if not after else "keep" if kept else "rewrite"].append(list(chunk))
+            found["create" if not before else "delete" if not after else "keep" if kept else "rewrite"].append(list(chunk))
     return found
 
 
@@ -348,7 +348,7 @@ def carried_out(store, lines):
         chunk = tuple(line["chunk"])
         if line["what"] == "delete":
             store.pop(chunk, None)
-        elif line["what"] in ("rewrite", "new"):
+        elif line["what"] in ("rewrite", "create"):
             before = store.get(chunk, {})
             kept = common(line["was"], line["now"]) if line["what"] == "rewrite" else set()
             store[chunk] = {place: before[place] if place in kept else 0 for place in elements(line["now_shape"])}

@@ -234,7 +234,7 @@ PLANS = {
     "counts of stages": lambda array: bounded(array, counts=True),
     "counts of stages of a region": lambda array: {**array.region(), **bound(array), "counts": True},
     "resize": lambda array: {"resize": array.resized},
-    "resize with all chunks": lambda array: {"resize": array.resized, "keep": True},
+    "resize with all chunks": lambda array: {"resize": array.resized, "include_unchanged": True},
 }
 # Tasks are chosen among shapes. In arrays of the other forms there can be very many, and the choice may take minutes.
 CHOSEN = [name for name in PLANS if "stage" in name]

@@ -23,8 +23,8 @@ from built import IS_THOROUGH  # noqa: E402
 
 PLAN = b'{"shape":[4],"chunk_grid":{"name":"regular","configuration":{"chunk_shape":[3]}},"chunk_key_encoding":"default","subset":[[1],[3]]}'
 LINES = """\
-{"chunk":[0],"in_chunk":[[1],[2]],"in_subset":[[0],[2]],"key":"c/0","number":0,"of":2,"shape":[3],"whole":false}
-{"chunk":[1],"in_chunk":[[0],[1]],"in_subset":[[2],[1]],"key":"c/1","number":1,"of":2,"shape":[3],"whole":true}
+{"chunk":[0],"in_chunk":[[1],[2]],"in_selection":[[0],[2]],"key":"c/0","number":0,"of":2,"shape":[3],"whole":false}
+{"chunk":[1],"in_chunk":[[0],[1]],"in_selection":[[2],[1]],"key":"c/1","number":1,"of":2,"shape":[3],"whole":true}
 """
 HAS_ZARR = """
 try:

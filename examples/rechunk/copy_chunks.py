@@ -117,7 +117,7 @@ def is_chunk(array, named):
 
 
 # How the line begins of a key that is none of the target's.
-FOREIGN = '{"foreign":'
+UNEXPECTED = '{"unexpected":'
 
 
 def in_array(array, chunk, box):
@@ -435,7 +435,7 @@ def copy(lines, source, target, region, words):
     done, written, of = 0, 0, 0
     try:
         for text in lines:
-            if text.startswith(FOREIGN):
+            if text.startswith(UNEXPECTED):
                 print(on_a_line(f"copy_chunks.py: {target.folder} has a key that isn't its own: {text.strip()}"), file=sys.stderr)
                 continue
             task = task_of(text, source, target, region, words.task_chunks, words.by_source)

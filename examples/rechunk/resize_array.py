@@ -57,7 +57,7 @@ def check(line, array):
     starts = [line[name][0] for name in ("was", "now") if line[name] is not None]
     if line["key"] != array.key(line["chunk"]) or any(shape != array.chunk_shape for shape in shapes) or any(start != first for start in starts):
         raise Refused(f"line {line['number']}: {line['key']} isn't a chunk of the array")
-    if line["what"] not in ("rewrite", "delete", "new"):
+    if line["what"] not in ("rewrite", "delete", "create"):
         raise Refused(f"line {line['number']}: {line['what']} isn't known here")
     if line["what"] == "rewrite" and array.fill is None and array.has(line["chunk"]):
         raise Refused(f"chunk {line['key']} gets places without an element, and there is no fill value")

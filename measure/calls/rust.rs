@@ -283,8 +283,8 @@ fn ask(grid: &dyn Grid, shape: &[u64], call: &str, count: u64) -> Option<u64> {
                 let ends = origin.iter().zip(&edges).zip(shape).map(|((start, edge), size)| (start + edge).min(*size));
                 let sizes: Vec<u64> = ends.zip(&first).map(|(end, first)| end - first).collect();
                 let in_chunk: Vec<u64> = first.iter().zip(&origin).map(|(first, start)| first - start).collect();
-                let in_subset: Vec<u64> = first.iter().map(|first| first - 1).collect();
-                let part = (chunk.clone(), encode(&chunk), (in_chunk, sizes.clone()), (in_subset, sizes));
+                let in_selection: Vec<u64> = first.iter().map(|first| first - 1).collect();
+                let part = (chunk.clone(), encode(&chunk), (in_chunk, sizes.clone()), (in_selection, sizes));
                 add(&mut sum, &part.0);
                 add(&mut sum, &[part.1.len() as u64]);
                 add(&mut sum, &part.2.0);

@@ -35,7 +35,7 @@ class Parts(NamedTuple):
     """The chunk of each part."""
     in_chunk: Numbers
     """The part's first element, counted from the chunk's."""
-    in_subset: Numbers
+    in_selection: Numbers
     """The same, counted from the first element of the box."""
     shapes: Numbers
     """How many elements the part has along each dimension."""
@@ -237,7 +237,7 @@ class Grid:
         >>> from zarrs_chunks import Encoding
         >>> grid = Grid([6, 6], {"name": "regular", "configuration": {"chunk_shape": [4, 3]}})
         >>> parts = grid.parts(Encoding("default"), [3, 2], [3, 2])
-        >>> parts.keys, parts.in_chunk.tolist(), parts.in_subset.tolist(), parts.shapes.tolist()
+        >>> parts.keys, parts.in_chunk.tolist(), parts.in_selection.tolist(), parts.shapes.tolist()
         (['c/0/0', 'c/0/1', 'c/1/0', 'c/1/1'], [[3, 2], [3, 0], [0, 2], [0, 0]], [[0, 0], [0, 1], [1, 0], [1, 1]], [[1, 1], [1, 1], [2, 1], [2, 1]])
         >>> parts = grid.parts(Encoding("default"), [3, 2], [3, 2], first=3, most=1)
         >>> parts.chunks.tolist(), parts.in_all
@@ -259,7 +259,7 @@ class Grid:
 
     def _some_parts(self, encoding: Encoding, box: dict[str, Numbers], first: int, room: int) -> Parts | None:
         """So many parts of the plan of a box, or as many as it has; None where there is no plan. Nobody else has the box's arrays."""
-        lists = {name: _library.room((room, self.dimensionality)) for name in ("chunks", "in_chunk", "in_subset", "shapes")}
+        lists = {name: _library.room((room, self.dimensionality)) for name in ("chunks", "in_chunk", "in_selection", "shapes")}
         offsets, length, code = _library.room(room + 1), usual_length(room, self.dimensionality), _library.SHORT_BUFFER
         array = {"shape": self._shape, "chunk_grid": self._metadata.text, "chunk_key_encoding": encoding._metadata.text}
         while code == _library.SHORT_BUFFER:

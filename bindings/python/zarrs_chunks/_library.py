@@ -64,7 +64,7 @@ def _struct(**kinds: Any) -> Any:
 
 StoredArray, ElementBox = _struct(**_GRID, **_ENCODING), _struct(start=NUMBERS, shape=NUMBERS)
 PartBuffers = _struct(
-    chunks=WRITTEN_NUMBERS, in_chunk=WRITTEN_NUMBERS, in_subset=WRITTEN_NUMBERS, shapes=WRITTEN_NUMBERS,
+    chunks=WRITTEN_NUMBERS, in_chunk=WRITTEN_NUMBERS, in_selection=WRITTEN_NUMBERS, shapes=WRITTEN_NUMBERS,
     text=WRITTEN_BYTES, offsets=WRITTEN_NUMBERS, needed=SIZE, count=SIZE, in_all=NUMBER, found=(ctypes.c_uint8,),
 )  # fmt: skip
 # A struct is passed as a pointer to it.

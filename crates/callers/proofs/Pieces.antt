@@ -35,19 +35,19 @@ has_elements : (ds : List Dimension) (IsKey : List ℕ → List ℕ → Type 0) 
     → IsPart ds IsKey subset chunk part → IsRead answers part piece → HasElements array subset piece
 has_elements ds IsKey subset answers array chunk part piece places stored is (box, read) =
     let shape = part.in_chunk.shape in
-    let same_shape : shape ≡ part.in_subset.shape = sym is.boxes.from_chunk.shape ∙ is.boxes.from_subset.shape in
+    let same_shape : shape ≡ part.in_selection.shape = sym is.boxes.from_chunk.shape ∙ is.boxes.from_subset.shape in
     let elements =
-    by_step (answers part.key) (λ place. array (counted_from subset.start place)) shape part.in_chunk.start part.in_subset.start (row_major shape)
+    by_step (answers part.key) (λ place. array (counted_from subset.start place)) shape part.in_chunk.start part.in_selection.start (row_major shape)
     piece.elements.items
     (λ step element below found.
-    let index = counted_from subset.start (counted_from part.in_subset.start step) in
+    let index = counted_from subset.start (counted_from part.in_selection.start step) in
     let place = counted_from part.in_chunk.start step in
     let lies = places chunk part index place is (record { steps = step; below = below; place_is = refl; index_is = refl }) in
     stored index chunk part.key place element lies.0 is.key lies.1 found) (all_below shape) read
     in
     subst (λ b. AllZip (λ place element. element ≡ array (counted_from subset.start place)) (chunks_in b) piece.elements.items) (sym box)
     (subst (λ sizes. AllZip (λ place element. element ≡ array (counted_from subset.start place))
-    (map (counted_from part.in_subset.start) (row_major sizes)) piece.elements.items) same_shape elements)
+    (map (counted_from part.in_selection.start) (row_major sizes)) piece.elements.items) same_shape elements)
 
 each_has : (ds : List Dimension) (IsKey : List ℕ → List ℕ → Type 0) (subset : Box) (answers : List ℕ → List ℕ → ℕ → Type 0) (array : List ℕ → ℕ)
     (chunks : List (List ℕ)) (parts : List Part) (pieces : List Piece) → HavePlaces ds IsKey subset → HoldsArray ds IsKey answers array
@@ -66,16 +66,16 @@ abbrev IsApart : Box → Box → Type 0
 IsApart one other = (place : List ℕ) → IsInside one place → IsInside other place → ⊥
 
 are_apart : (answers : List ℕ → List ℕ → ℕ → Type 0) (parts : List Part) (pieces : List Piece) → AllZip (IsRead answers) parts pieces
-    → AllPairs (λ part other. IsApart part.in_subset other.in_subset) parts → AllPairs (λ piece other. IsApart piece.in_subset other.in_subset) pieces
+    → AllPairs (λ part other. IsApart part.in_selection other.in_selection) parts → AllPairs (λ piece other. IsApart piece.in_selection other.in_selection) pieces
 are_apart answers parts pieces read apart =
-    pairs_by (IsRead answers) (λ part other. IsApart part.in_subset other.in_subset)
-    (λ piece other. IsApart piece.in_subset other.in_subset) parts pieces read apart
+    pairs_by (IsRead answers) (λ part other. IsApart part.in_selection other.in_selection)
+    (λ piece other. IsApart piece.in_selection other.in_selection) parts pieces read apart
     (λ part other piece next _ _ apart is is_next. rw (is.0, is_next.0) apart)
 
 pub are_pieces : (ds : List Dimension) (IsKey : List ℕ → List ℕ → Type 0) (subset : Box) (answers : List ℕ → List ℕ → ℕ → Type 0) (array : List ℕ → ℕ)
     (parts : List Part) (pieces : List Piece) → HavePlaces ds IsKey subset → HoldsArray ds IsKey answers array
-    → ((place : List ℕ) → AreBelow subset.shape place ↔ ((part : Part) × Contains parts part × IsInside part.in_subset place))
-    → AllPairs (λ part other. IsApart part.in_subset other.in_subset) parts → IsPlan ds IsKey subset parts → AllZip (IsRead answers) parts pieces
+    → ((place : List ℕ) → AreBelow subset.shape place ↔ ((part : Part) × Contains parts part × IsInside part.in_selection place))
+    → AllPairs (λ part other. IsApart part.in_selection other.in_selection) parts → IsPlan ds IsKey subset parts → AllZip (IsRead answers) parts pieces
     → ArePieces array subset pieces
 are_pieces ds IsKey subset answers array parts pieces places stored tile apart plan read = record {
   all = λ place. (

@@ -22,18 +22,18 @@ HoldsArray ds IsKey answers array =
 
 -- the piece was read of the part: it has an element for each place in the part's chunk, in row-major order
 abbrev pub IsRead : (List ℕ → List ℕ → ℕ → Type 0) → Part → Piece → Type 0
-IsRead answers part piece = (piece.in_subset ≡ part.in_subset) × AllZip (answers part.key) (chunks_in part.in_chunk) piece.elements.items
+IsRead answers part piece = (piece.in_selection ≡ part.in_selection) × AllZip (answers part.key) (chunks_in part.in_chunk) piece.elements.items
 
 -- the piece has the array's elements, in row-major order; its box is counted from the start of another one
 abbrev pub HasElements : (List ℕ → ℕ) → Box → Piece → Type 0
 HasElements array subset piece =
-    AllZip (λ place element. element ≡ array (counted_from subset.start place)) (chunks_in piece.in_subset) piece.elements.items
+    AllZip (λ place element. element ≡ array (counted_from subset.start place)) (chunks_in piece.in_selection) piece.elements.items
 
 -- Pieces of the array that tile a box: a place lies in the box exactly where it lies in a piece, no place lies in two, and each
 -- has the array's elements.
 pub record ArePieces (array : List ℕ → ℕ) (subset : Box) (pieces : List Piece) : Type 0 where
-  pub all : (place : List ℕ) → AreBelow subset.shape place ↔ ((piece : Piece) × Contains pieces piece × IsInside piece.in_subset place)
-  pub apart : AllPairs (λ piece other. (place : List ℕ) → IsInside piece.in_subset place → IsInside other.in_subset place → ⊥) pieces
+  pub all : (place : List ℕ) → AreBelow subset.shape place ↔ ((piece : Piece) × Contains pieces piece × IsInside piece.in_selection place)
+  pub apart : AllPairs (λ piece other. (place : List ℕ) → IsInside piece.in_selection place → IsInside other.in_selection place → ⊥) pieces
   pub each : AllByRecursion (HasElements array subset) pieces
 
 -- what is answered of a box that isn't empty: its pieces, of each array that is held, and none where its first or its last element lies in no chunk

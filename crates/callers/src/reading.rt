@@ -24,7 +24,7 @@ pub trait ChunkStore {
 #[derive(Debug, Drop)]
 pub struct Piece {
     /// Where in the box they lie: a box, counted from the first element of the box that was asked for.
-    pub in_subset: ArraySubset,
+    pub in_selection: ArraySubset,
     /// The elements, in row-major order.
     pub elements: Vec<u64>,
 }
@@ -69,9 +69,9 @@ fn read_part<S: ChunkStore>(alloc: Global, store: &S, part: Part) -> Result<Piec
         let place = place?;
         elements.push(store.element(&part.key, place.as_slice()))?;
     }
-    let Part { in_subset, .. } = part;
+    let Part { in_selection, .. } = part;
     Ok(Piece {
-        in_subset,
+        in_selection,
         elements,
     })
 }

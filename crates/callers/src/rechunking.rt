@@ -3,7 +3,7 @@ use std::alloc::Global;
 use std::num::NonZeroU64;
 use zarrs_chunk_base::Refusal;
 use zarrs_chunk_keys::ChunkKeyEncodingTraits;
-use zarrs_chunk_parts::expect_answer;
+use zarrs_chunk_parts::found_or_out_of_memory;
 use zarrs_chunk_plan::{StoredArray, parts, whole_array};
 use zarrs_chunk_tasks::{TasksError, tasks};
 use zarrs_chunks::ChunkGridTraits;
@@ -26,10 +26,15 @@ pub fn most_sources<G: ChunkGridTraits, E: ChunkKeyEncodingTraits, H: ChunkGridT
         task_chunks,
     )? {
         let task = task?;
-        let read = expect_answer(parts(alloc, &source.grid, &source.encoding, &task.source))?;
+        let read = found_or_out_of_memory(parts(
+            alloc,
+            &source.grid,
+            &source.encoding,
+            &task.source,
+        ))?;
         let mut count = 0u64;
         for part in read {
-            // It goes from `part.in_chunk` of the chunk under `part.key` to `part.in_subset` of the task's buffer.
+            // It goes from `part.in_chunk` of the chunk under `part.key` to `part.in_selection` of the task's buffer.
             let _part = part?;
             count = count.saturating_add(1);
         }

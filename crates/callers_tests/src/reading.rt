@@ -60,7 +60,7 @@ fn read<G: ChunkGridTraits>(
 
 /// Where the elements of a piece lie in the box, and which these are.
 fn check_piece(rt: &impl Abort, piece: &Piece, start: [u64; 2], elements: &[u64]) {
-    check_numbers(rt, piece.in_subset.start(), &start);
+    check_numbers(rt, piece.in_selection.start(), &start);
     check_numbers(rt, &piece.elements, elements);
 }
 

@@ -13,7 +13,7 @@
 //! read is worth, and `stage` gives the lines of one stage. With `keys` true the document is the first line, and each line after it a key of the store
 //! that is written. Tasks whose chunks are all there are left out, and keys of no chunk are reported at the end.
 //!
-//! With `resize`, the shape that the array gets, the lines say which chunks must be created, rewritten or deleted. With `keep` true they also say which
+//! With `resize`, the shape that the array gets, the lines say which chunks must be created, rewritten or deleted. With `include_unchanged` they also say which
 //! stay.
 //!
 //! A line has all that its worker needs, and its number among the lines, so lines can be shared out in any way. `share`, a number and how many shares there
@@ -24,8 +24,8 @@
 //! {"shape":[4],"chunk_grid":{"name":"regular","configuration":{"chunk_shape":[3]}},
 //!  "chunk_key_encoding":{"name":"default"},"subset":[[1],[3]]}
 //!
-//! {"chunk":[0],"in_chunk":[[1],[2]],"in_subset":[[0],[2]],"key":"c/0","number":0,"of":2,"shape":[3],"whole":false}
-//! {"chunk":[1],"in_chunk":[[0],[1]],"in_subset":[[2],[1]],"key":"c/1","number":1,"of":2,"shape":[3],"whole":true}
+//! {"chunk":[0],"in_chunk":[[1],[2]],"in_selection":[[0],[2]],"key":"c/0","number":0,"of":2,"shape":[3],"whole":false}
+//! {"chunk":[1],"in_chunk":[[0],[1]],"in_selection":[[2],[1]],"key":"c/1","number":1,"of":2,"shape":[3],"whole":true}
 //!
 //! with "counts":true
 //!
@@ -67,7 +67,7 @@ line after it a key of the store that is written: tasks whose chunks are all
 there are left out, and keys of no chunk are reported at the end.
 
 With `resize`, the shape that the array gets, the lines say which chunks must be
-created, rewritten or deleted; with `keep` true, also which stay.
+created, rewritten or deleted; with `include_unchanged` true, also which stay.
 
 `share`, a number and how many shares there are, gives the share of the lines
 with this number, counted from 0. With `counts` true one line is written in

@@ -10,8 +10,8 @@ const DOCUMENT: &[u8] =
     br#"{"shape":[4],"chunk_grid":{"name":"regular","configuration":{"chunk_shape":[3]}},"chunk_key_encoding":"v2"}"#;
 
 const LINES: &[u8] =
-    br#"{"chunk":[0],"in_chunk":[[0],[3]],"in_subset":[[0],[3]],"key":"0","number":0,"of":2,"shape":[3],"whole":true}
-{"chunk":[1],"in_chunk":[[0],[1]],"in_subset":[[3],[1]],"key":"1","number":1,"of":2,"shape":[3],"whole":true}
+    br#"{"chunk":[0],"in_chunk":[[0],[3]],"in_selection":[[0],[3]],"key":"0","number":0,"of":2,"shape":[3],"whole":true}
+{"chunk":[1],"in_chunk":[[0],[1]],"in_selection":[[3],[1]],"key":"1","number":1,"of":2,"shape":[3],"whole":true}
 "#;
 
 /// The same array, of which the second of two shares is asked for.
@@ -19,7 +19,7 @@ const SHARE: &[u8] =
     br#"{"shape":[4],"chunk_grid":{"name":"regular","configuration":{"chunk_shape":[3]}},"chunk_key_encoding":"v2","share":[1,2]}"#;
 
 const LINE_OF_SHARE: &[u8] =
-    br#"{"chunk":[1],"in_chunk":[[0],[1]],"in_subset":[[3],[1]],"key":"1","number":1,"of":2,"shape":[3],"whole":true}
+    br#"{"chunk":[1],"in_chunk":[[0],[1]],"in_selection":[[3],[1]],"key":"1","number":1,"of":2,"shape":[3],"whole":true}
 "#;
 
 /// The same array, whose rechunking into chunks of two was broken off: the first of these is there.
@@ -32,8 +32,8 @@ const BESIDE_KEYS: &[u8] =
 
 const LINES_BESIDE_KEYS: &[u8] =
     br#"{"buffer":[2],"from":[{"chunk":[0],"in_buffer":[[0],[1]],"in_chunk":[[2],[1]],"key":"0","shape":[3]},{"chunk":[1],"in_buffer":[[1],[1]],"in_chunk":[[0],[1]],"key":"1","shape":[3]}],"number":1,"of":2,"to":[{"chunk":[1],"in_buffer":[[0],[2]],"in_chunk":[[0],[2]],"key":"1","shape":[2],"whole":true}]}
-{"foreign":".zarray"}
-{"foreign":"2"}
+{"unexpected":".zarray"}
+{"unexpected":"2"}
 "#;
 
 const KEY_NOT_TEXT: &[u8] =

@@ -43,9 +43,9 @@ module _ (ds : List Dimension) (IsKey : List ℕ → List ℕ → Type 0) (b : B
       let same = shared.is_box.lengths in
       let chunk_shape : length shared.shared.shape ≡ length part.in_chunk.shape = ap length shared.from_chunk.shape in
       let chunk_start = shared.from_chunk.is_box.lengths in
-      let subset_shape : length shared.shared.shape ≡ length part.in_subset.shape = ap length shared.from_subset.shape in
+      let subset_shape : length shared.shared.shape ≡ length part.in_selection.shape = ap length shared.from_subset.shape in
       let subset_start = shared.from_subset.is_box.lengths in
-      record { chunk = numbers; in_chunk = omega arith; in_subset = omega arith; shape = omega arith }
+      record { chunk = numbers; in_chunk = omega arith; in_selection = omega arith; shape = omega arith }
 
   module _ (first most : ℕ) where
     pub few_parts : (some : SomeParts) → AreSomeParts ds IsKey b first most some.in_all some.parts.items → length some.parts.items ≤ most

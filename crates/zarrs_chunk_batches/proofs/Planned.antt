@@ -38,7 +38,7 @@ kept_more width number initial before after kept wrote =
     record {
       chunks = kept_further _ _ _ _ _ less kept.chunks wrote.chunks;
       in_chunk = kept_further _ _ _ _ _ less kept.in_chunk wrote.in_chunk;
-      in_subset = kept_further _ _ _ _ _ less kept.in_subset wrote.in_subset;
+      in_selection = kept_further _ _ _ _ _ less kept.in_selection wrote.in_selection;
       shapes = kept_further _ _ _ _ _ less kept.shapes wrote.shapes;
     }
 
@@ -75,9 +75,9 @@ module _ (ds : List Dimension) (IsKey : List ℕ → List ℕ → Type 0) (subse
   part_at : (chunk : List ℕ) (part : Part) (buffers : PartBuffers) (number : ℕ) → IsPart ds IsKey subset chunk part
       → IsWritten (length ds) part buffers number → IsPartAt ds subset chunk buffers number
   part_at chunk part buffers number is lists =
-      let shape : part.in_chunk.shape ≡ part.in_subset.shape = sym is.boxes.from_chunk.shape ∙ is.boxes.from_subset.shape in
-      let shared = subst (λ s. AreShared ds subset chunk part.in_chunk (record { start = part.in_subset.start; shape = s })) (sym shape) is.boxes in
-      record { numbers = lists.is_chunk ∙ is.numbers; boxes = rw (lists.is_in_chunk, lists.is_in_subset, lists.is_shape) shared }
+      let shape : part.in_chunk.shape ≡ part.in_selection.shape = sym is.boxes.from_chunk.shape ∙ is.boxes.from_subset.shape in
+      let shared = subst (λ s. AreShared ds subset chunk part.in_chunk (record { start = part.in_selection.start; shape = s })) (sym shape) is.boxes in
+      record { numbers = lists.is_chunk ∙ is.numbers; boxes = rw (lists.is_in_chunk, lists.is_in_selection, lists.is_shape) shared }
 
   module _ (first room : ℕ) (some : SomeParts) (are : AreSomeParts ds IsKey subset first room some.in_all some.parts.items) where
     abbrev pub IsPartOf : List ℕ → Part → Type 0

@@ -17,7 +17,7 @@ pub record IsPartAt (ds : List Dimension) (subset : Box) (chunk : List ℕ) (buf
   pub numbers : list_at (length ds) buffers.chunks.now number ≡ chunk
   pub boxes : AreShared ds subset chunk
       (record { start = list_at (length ds) buffers.in_chunk.now number; shape = list_at (length ds) buffers.shapes.now number })
-      (record { start = list_at (length ds) buffers.in_subset.now number; shape = list_at (length ds) buffers.shapes.now number })
+      (record { start = list_at (length ds) buffers.in_selection.now number; shape = list_at (length ds) buffers.shapes.now number })
 
 -- The plan of the box has so many parts in all, as far as a number of 64 bits counts them. The part with the number `first` and those after it are
 -- written, at most one fewer than there are offsets: one for each chunk of the cover in row-major order, each with a key of its chunk, these keys.
@@ -43,7 +43,7 @@ IsPlanTooLong ds IsKey subset first buffers =
 abbrev pub IsRoomFor : (width : ℕ) → PartBuffers → (room : ℕ) → Type 0
 IsRoomFor width buffers room =
     AreTextLengths width (length buffers.offsets.now)
-    (length buffers.chunks.now ∷ length buffers.in_chunk.now ∷ length buffers.in_subset.now ∷ length buffers.shapes.now ∷ []) room
+    (length buffers.chunks.now ∷ length buffers.in_chunk.now ∷ length buffers.in_selection.now ∷ length buffers.shapes.now ∷ []) room
 
 -- the buffers lie where they did, and are as long
 abbrev pub IsSameBuffer : (before after : MutBor (List ℕ)) → Type 0
@@ -52,7 +52,7 @@ IsSameBuffer before after = (after.ref_ptr ≡ before.ref_ptr) × (length after.
 pub record AreSameBuffers (before after : PartBuffers) : Type 0 where
   pub chunks : IsSameBuffer before.chunks after.chunks
   pub in_chunk : IsSameBuffer before.in_chunk after.in_chunk
-  pub in_subset : IsSameBuffer before.in_subset after.in_subset
+  pub in_selection : IsSameBuffer before.in_selection after.in_selection
   pub shapes : IsSameBuffer before.shapes after.shapes
   pub text : IsSameBuffer before.text after.text
   pub offsets : IsSameBuffer before.offsets after.offsets
@@ -61,7 +61,7 @@ pub record AreSameBuffers (before after : PartBuffers) : Type 0 where
 pub record AreListsKept (width count : ℕ) (before after : PartBuffers) : Type 0 where
   pub chunks : drop (count * width) after.chunks.now ≡ drop (count * width) before.chunks.now
   pub in_chunk : drop (count * width) after.in_chunk.now ≡ drop (count * width) before.in_chunk.now
-  pub in_subset : drop (count * width) after.in_subset.now ≡ drop (count * width) before.in_subset.now
+  pub in_selection : drop (count * width) after.in_selection.now ≡ drop (count * width) before.in_selection.now
   pub shapes : drop (count * width) after.shapes.now ≡ drop (count * width) before.shapes.now
 
 -- Behind the parts that are written the four buffers of lists are as they were, and so is that of offsets: behind one offset more where there is a

@@ -73,7 +73,12 @@ fn write_part(part: &Part, width: usize, number: usize, buffers: &mut PartBuffer
 {
     write_list(buffers.chunks, width, number, part.chunk.as_slice());
     write_list(buffers.in_chunk, width, number, part.in_chunk.start());
-    write_list(buffers.in_subset, width, number, part.in_subset.start());
+    write_list(
+        buffers.in_selection,
+        width,
+        number,
+        part.in_selection.start(),
+    );
     write_list(buffers.shapes, width, number, part.in_chunk.shape());
 }
 

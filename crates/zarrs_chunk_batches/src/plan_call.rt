@@ -59,7 +59,7 @@ fn room_for(width: usize, elements: &ElementBox, buffers: &PartBuffers) -> Resul
     let totals = [
         buffers.chunks.len(),
         buffers.in_chunk.len(),
-        buffers.in_subset.len(),
+        buffers.in_selection.len(),
         buffers.shapes.len(),
     ];
     count_of_texts(buffers.offsets.len(), &totals, width)

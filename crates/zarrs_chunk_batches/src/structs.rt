@@ -26,7 +26,7 @@ pub struct PartBuffers<'a> {
     /// The part's first element, counted from the chunk's.
     pub in_chunk: &'a mut [u64],
     /// The same, counted from the first element of the box.
-    pub in_subset: &'a mut [u64],
+    pub in_selection: &'a mut [u64],
     /// How many elements the part has along each dimension.
     pub shapes: &'a mut [u64],
     /// The keys of the chunks, one after another.

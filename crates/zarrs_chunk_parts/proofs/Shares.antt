@@ -73,7 +73,7 @@ from_start origin edges b = record { start = distances b.start origin; shape = s
 pub boxes_are : (ds : List Dimension) (b : Box) (chunk origin edges : List ℕ) → IsBox b → Meets ds b chunk → IsOrigin ds chunk origin
     → IsShape ds chunk edges → IsBox (from_chunk origin edges b) × IsBox (from_start origin edges b)
     × AreShared ds b chunk (from_chunk origin edges b) (from_start origin edges b)
-boxes_are ds b chunk origin edges is_box meets is long = (in_chunk, in_subset, shared) where
+boxes_are ds b chunk origin edges is_box meets is long = (in_chunk, in_selection, shared) where
   edges_many : length edges ≡ length origin
   edges_many = length_values HasEdge ds chunk edges long ∙ sym (length_values StartsAt ds chunk origin is)
 
@@ -90,8 +90,8 @@ boxes_are ds b chunk origin edges is_box meets is long = (in_chunk, in_subset, s
   in_chunk : IsBox (from_chunk origin edges b)
   in_chunk = counted_is_box origin b.start _ start_many (rw (← (reach_later origin b.start).0) shared_is_box)
 
-  in_subset : IsBox (from_start origin edges b)
-  in_subset = counted_is_box b.start origin _ (sym start_many) (rw (← (reach_later origin b.start).1) shared_is_box)
+  in_selection : IsBox (from_start origin edges b)
+  in_selection = counted_is_box b.start origin _ (sym start_many) (rw (← (reach_later origin b.start).1) shared_is_box)
 
   shared : AreShared ds b chunk (from_chunk origin edges b) (from_start origin edges b)
   shared = record {
@@ -104,7 +104,7 @@ boxes_are ds b chunk origin edges is_box meets is long = (in_chunk, in_subset, s
     origin = origin;
     is_origin = is;
     from_chunk = record { is_box = in_chunk; start = (reach_later origin b.start).0; shape = refl };
-    from_subset = record { is_box = in_subset; start = (reach_later origin b.start).1; shape = refl };
+    from_subset = record { is_box = in_selection; start = (reach_later origin b.start).1; shape = refl };
   }
 
 -- the box has all that the chunk has of the array where it has all from the chunk's origin on, as far as its edges and the array reach

@@ -28,14 +28,14 @@ HasAllOf ds subset chunk = (index : List ℕ) → InBox ds chunk index → AreBe
 
 -- The elements that the chunk and the box share are those of one box; counted from the chunk's origin it is
 -- the one given, and counted from the start of the box the other.
-pub record AreShared (ds : List Dimension) (subset : Box) (chunk : List ℕ) (in_chunk in_subset : Box) : Type 0 where
+pub record AreShared (ds : List Dimension) (subset : Box) (chunk : List ℕ) (in_chunk in_selection : Box) : Type 0 where
   pub shared : Box
   pub is_box : IsBox shared
   pub elements : (index : List ℕ) → IsInside shared index ↔ IsCommon ds subset chunk index
   pub origin : List ℕ
   pub is_origin : IsOrigin ds chunk origin
   pub from_chunk : IsCountedFrom origin shared in_chunk
-  pub from_subset : IsCountedFrom subset.start shared in_subset
+  pub from_subset : IsCountedFrom subset.start shared in_selection
 
 -- the part of a chunk: that chunk, a key of it, its shape, whether the box has all that it has of the array, and the elements that it shares with it
 pub record IsPart (ds : List Dimension) (IsKey : List ℕ → List ℕ → Type 0) (subset : Box) (chunk : List ℕ) (part : Part) : Type 0 where
@@ -43,7 +43,7 @@ pub record IsPart (ds : List Dimension) (IsKey : List ℕ → List ℕ → Type 
   pub key : IsKey chunk part.key
   pub shape : IsShape ds chunk part.shape.items
   pub whole : IsTrue part.whole ↔ HasAllOf ds subset chunk
-  pub boxes : AreShared ds subset chunk part.in_chunk part.in_subset
+  pub boxes : AreShared ds subset chunk part.in_chunk part.in_selection
 
 -- The box of chunk numbers covers a box of elements: inside are exactly the chunks that hold some of them, and each of them lies in a chunk.
 pub record Covers (ds : List Dimension) (subset cover : Box) : Type 0 where
@@ -62,4 +62,4 @@ pub record HasElement (subset : Box) (part : Part) (index place : List ℕ) : Ty
   pub steps : List ℕ
   pub below : AreBelow part.in_chunk.shape steps
   pub place_is : place ≡ counted_from part.in_chunk.start steps
-  pub index_is : index ≡ counted_from subset.start (counted_from part.in_subset.start steps)
+  pub index_is : index ≡ counted_from subset.start (counted_from part.in_selection.start steps)

@@ -16,5 +16,5 @@ mod shared;
 pub use boxes::overlap;
 pub use part::{ChunkShapeTinyVec, Part, part_of};
 pub use shared::{
-    Shared, box_of, expect_answer, made_box, shared_elements, sizes_shared, steps_to,
+    Shared, box_of, distance, found_or_out_of_memory, made_box, shared_elements, sizes_shared,
 };

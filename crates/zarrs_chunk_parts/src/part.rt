@@ -24,7 +24,7 @@ pub struct Part {
     /// The part's box, counted from the chunk's first element.
     pub in_chunk: ArraySubset,
     /// The part's box, counted from the first element of the box that was asked for.
-    pub in_subset: ArraySubset,
+    pub in_selection: ArraySubset,
     /// Whether the box that was asked for has all elements of the array that the chunk holds.
     pub whole: bool,
 }
@@ -49,7 +49,7 @@ pub fn part_of<G: ChunkGridTraits, E: ChunkKeyEncodingTraits>(
     let Shared {
         shape,
         in_chunk,
-        in_subset,
+        in_selection,
         whole,
     } = shared;
     let key = encoding.encode(alloc, chunk.as_slice())?;
@@ -58,7 +58,7 @@ pub fn part_of<G: ChunkGridTraits, E: ChunkKeyEncodingTraits>(
         chunk,
         shape,
         in_chunk,
-        in_subset,
+        in_selection,
         whole,
     })
 }

@@ -22,7 +22,7 @@ pub struct Shared {
     /// The shared elements, counted from the chunk's first element.
     pub in_chunk: ArraySubset,
     /// The same, counted from the first element of the box.
-    pub in_subset: ArraySubset,
+    pub in_selection: ArraySubset,
     /// Whether the box has all elements of the array that the chunk holds.
     pub whole: bool,
 }
@@ -40,7 +40,7 @@ pub fn shared_elements<G: ChunkGridTraits>(
 ) -> Result<Shared, AllocError>
     ensures boxes { Meets (G.dimensions grid.now) array_subset.now chunk.now
         → IfOk result (λ shared. AreShared (G.dimensions grid.now) array_subset.now
-        chunk.now shared.in_chunk shared.in_subset) }
+        chunk.now shared.in_chunk shared.in_selection) }
     ensures shape { IfOk result (λ shared. IsShape (G.dimensions grid.now) chunk.now
         shared.shape.items) }
     ensures whole { Meets (G.dimensions grid.now) array_subset.now chunk.now
@@ -48,8 +48,8 @@ pub fn shared_elements<G: ChunkGridTraits>(
         ↔ HasAllOf (G.dimensions grid.now) array_subset.now chunk.now) }
 {
     let start = array_subset.start();
-    let origin = expect_answer(grid.chunk_origin(alloc, chunk))?;
-    let edges = expect_answer(grid.chunk_shape_u64(alloc, chunk))?;
+    let origin = found_or_out_of_memory(grid.chunk_origin(alloc, chunk))?;
+    let edges = found_or_out_of_memory(grid.chunk_shape_u64(alloc, chunk))?;
     if start.len() != origin.len() {
         // Never: a chunk that holds an element of the box has a number for each of its dimensions.
         return Err(AllocError);
@@ -58,13 +58,13 @@ pub fn shared_elements<G: ChunkGridTraits>(
     let whole = has_all(array_subset, &origin, &edges, grid.array_shape());
     // From here on the lists of the chunk's origin and edges become those of the part.
     let sizes = sizes_shared(&origin, edges, array_subset);
-    let from_start = steps_to(Vec::from_slice(alloc, start)?, &origin);
-    let in_subset = made_box(from_start, Vec::from_slice(alloc, &sizes)?)?;
-    let in_chunk = made_box(steps_to(origin, start), sizes)?;
+    let from_start = distance(Vec::from_slice(alloc, start)?, &origin);
+    let in_selection = made_box(from_start, Vec::from_slice(alloc, &sizes)?)?;
+    let in_chunk = made_box(distance(origin, start), sizes)?;
     Ok(Shared {
         shape,
         in_chunk,
-        in_subset,
+        in_selection,
         whole,
     })
 }
@@ -73,7 +73,7 @@ pub fn shared_elements<G: ChunkGridTraits>(
 ///
 /// # Errors
 /// Out of memory.
-pub fn expect_answer<T: Drop>(
+pub fn found_or_out_of_memory<T: Drop>(
     answer: Result<Option<T>, Refusal<IncompatibleDimensionalityError>>,
 ) -> Result<T, AllocError>
     ensures { IfOk result (λ value. answer ≡ Ok (Some value)) }
@@ -85,7 +85,7 @@ pub fn expect_answer<T: Drop>(
 }
 
 /// For each dimension how far after the one index the other lies, in the one list's own memory; 0 where it lies before.
-pub fn steps_to(mut from: ArrayIndices, to: &[u64]) -> ArrayIndices
+pub fn distance(mut from: ArrayIndices, to: &[u64]) -> ArrayIndices
     requires { length from.items ≡ length to.now }
     ensures { result.items ≡ distances from.items to.now }
 {

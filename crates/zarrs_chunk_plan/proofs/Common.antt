@@ -42,7 +42,7 @@ pub use Rattle.zarrs_chunk_plan.specs.Shares.{before_share, between}
 pub use Rattle.zarrs_chunk_plan.specs.declared.resize.plan.Change.{Change}
 pub use Rattle.zarrs_chunk_plan.specs.seen.Between.{rank}
 pub use Rattle.zarrs_chunk_plan.specs.seen.Changes.{changes_to_come}
-pub use Rattle.zarrs_chunk_plan.specs.seen.Outside.{chunks_of_boxes, lesser}
+pub use Rattle.zarrs_chunk_plan.specs.seen.Outside.{chunks_of_boxes, pairwise_min}
 pub use Rattle.zarrs_chunk_plan.specs.seen.Parts.{HasKeys}
 pub use Rattle.zarrs_chunk_plan.specs.seen.Sources.{TakesSome, counters, counters_from, met_along, met_by}
 pub use Rattle.zarrs_chunk_plan.specs.seen.Sources.{met_in, taken, taken_from}

@@ -148,7 +148,7 @@ module _ {ds : List Dimension} {IsKey : List ℕ → List ℕ → Type 0} {b : B
           steps = steps;
           below = subst (λ shape. AreBelow shape steps) boxes.from_chunk.shape below;
           place_is = refl;
-          index_is = sym counts ∙ ap (λ start. counted_from start steps) boxes.from_subset.start ∙ sym (added b.start part.in_subset.start steps);
+          index_is = sym counts ∙ ap (λ start. counted_from start steps) boxes.from_subset.start ∙ sym (added b.start part.in_selection.start steps);
         },
       )
 
@@ -159,7 +159,7 @@ module _ {ds : List Dimension} {IsKey : List ℕ → List ℕ → Type 0} {b : B
       let shared = boxes.shared in
       let below : AreBelow shared.shape has.steps = subst (λ shape. AreBelow shape has.steps) (sym boxes.from_chunk.shape) has.below in
       let counts : counted_from shared.start has.steps ≡ index =
-      ap (λ start. counted_from start has.steps) boxes.from_subset.start ∙ sym (added b.start part.in_subset.start has.steps) ∙ sym has.index_is
+      ap (λ start. counted_from start has.steps) boxes.from_subset.start ∙ sym (added b.start part.in_selection.start has.steps) ∙ sym has.index_is
       in
       (boxes.elements index).0
       (subst (AreWithin shared.start shared.shape) counts (lie_within shared.start shared.shape has.steps boxes.is_box.lengths below))
@@ -167,11 +167,11 @@ module _ {ds : List Dimension} {IsKey : List ℕ → List ℕ → Type 0} {b : B
   -- each of its lists of numbers is as long as there are dimensions
   pub all_long : (index : List ℕ) → IsCommon ds b chunk index
       → (length index ≡ length ds) × (length b.start ≡ length ds) × (length part.in_chunk.start ≡ length ds)
-      × (length part.in_chunk.shape ≡ length ds) × (length part.in_subset.start ≡ length ds)
+      × (length part.in_chunk.shape ≡ length ds) × (length part.in_selection.start ≡ length ds)
   all_long index common =
       let boxes = is.boxes in
       let in_chunk = ap length boxes.from_chunk.shape in
-      let in_subset = ap length boxes.from_subset.shape in
+      let in_selection = ap length boxes.from_subset.shape in
       let in_shared : length index ≡ length boxes.shared.start = within_lengths _ _ _ ((boxes.elements index).1 common) in
       let in_box : length index ≡ length b.start = within_lengths _ _ _ common.1 in
       let many : length index ≡ length ds = length_values Holds ds chunk index common.0 in
@@ -183,7 +183,7 @@ module _ {ds : List Dimension} {IsKey : List ℕ → List ℕ → Type 0} {b : B
       let boxes = is.boxes in
       let common = has_common has in
       let from_origin : index ≡ counted_from boxes.origin place =
-      has.index_is ∙ added b.start part.in_subset.start has.steps
+      has.index_is ∙ added b.start part.in_selection.start has.steps
       ∙ ap (λ start. counted_from start has.steps) (sym boxes.from_subset.start ∙ boxes.from_chunk.start)
       ∙ sym (added boxes.origin part.in_chunk.start has.steps) ∙ ap (counted_from boxes.origin) (sym has.place_is)
       in
@@ -193,15 +193,15 @@ module _ {ds : List Dimension} {IsKey : List ℕ → List ℕ → Type 0} {b : B
       (common.0, rw from_origin (place_from_origin ds chunk boxes.origin place boxes.is_origin (omega arith)))
 
   -- it isn't empty, where the chunk has an element of the box
-  pub not_empty : Meets ds b chunk → ¬ IsEmptyBox part.in_subset
+  pub not_empty : Meets ds b chunk → ¬ IsEmptyBox part.in_selection
   not_empty (index, box, inside) =
       subst (λ shape. ¬ Contains shape 0) is.boxes.from_subset.shape (not_empty_if_inside _ _ index ((is.boxes.elements index).1 (box, inside)))
 
   -- what lies in its box is an element that it has
-  has_at : (place : List ℕ) → IsInside part.in_subset place → (at : List ℕ) × HasElement b part (counted_from b.start place) at
+  has_at : (place : List ℕ) → IsInside part.in_selection place → (at : List ℕ) × HasElement b part (counted_from b.start place) at
   has_at place inside =
       let boxes = is.boxes in
-      let (steps, below, counts) = offset_of part.in_subset.start part.in_subset.shape place inside in (
+      let (steps, below, counts) = offset_of part.in_selection.start part.in_selection.shape place inside in (
         counted_from part.in_chunk.start steps,
         record {
           steps = steps;
@@ -212,12 +212,12 @@ module _ {ds : List Dimension} {IsKey : List ℕ → List ℕ → Type 0} {b : B
       )
 
   -- and so it lies in the box that is read, counted from its first element
-  pub place_below : (place : List ℕ) → IsInside part.in_subset place → AreBelow b.shape place
+  pub place_below : (place : List ℕ) → IsInside part.in_selection place → AreBelow b.shape place
   place_below place inside =
       let index = counted_from b.start place in
       let common = has_common (has_at place inside).1 in
       let long = all_long index common in
-      let in_part = within_lengths part.in_subset.start part.in_subset.shape place inside in
+      let in_part = within_lengths part.in_selection.start part.in_selection.shape place inside in
       let sizes = within_sizes b.start b.shape index common.1 in
       let (steps, below, counts) = offset_of b.start b.shape index common.1 in
       let steps_many = length_below b.shape steps below ∙ sizes in
@@ -318,9 +318,9 @@ module _ {ds : List Dimension} {IsKey : List ℕ → List ℕ → Type 0} {b : B
       differ (one_chunk exact plan.cover plan.is_cover.is_box one other part next among also is is_other same))
 
   pub tiles_all : length b.start ≡ length b.shape → (place : List ℕ)
-      → AreBelow b.shape place ↔ ((part : Part) × Contains parts part × IsInside part.in_subset place)
+      → AreBelow b.shape place ↔ ((part : Part) × Contains parts part × IsInside part.in_selection place)
   tiles_all lengths place = (find, λ (part, among, inside). let (_, _, is) = chunk_of part among in place_below is place inside) where
-    find : AreBelow b.shape place → (part : Part) × Contains parts part × IsInside part.in_subset place
+    find : AreBelow b.shape place → (part : Part) × Contains parts part × IsInside part.in_selection place
     find below =
         let index = counted_from b.start place in
         let (part, among, (at, has)) = some_part index (lie_within b.start b.shape place lengths below) in
@@ -329,22 +329,22 @@ module _ {ds : List Dimension} {IsKey : List ℕ → List ℕ → Type 0} {b : B
         let long = all_long is index (has_common is has) in
         let steps_many = length_below part.in_chunk.shape has.steps has.below in
         let place_many = length_below b.shape place below ∙ sym lengths in
-        let counted = counted_from part.in_subset.start has.steps in
-        let counted_many = length_counted part.in_subset.start has.steps (omega arith) in
+        let counted = counted_from part.in_selection.start has.steps in
+        let counted_many = length_counted part.in_selection.start has.steps (omega arith) in
         let same : place ≡ counted = counted_once b.start place counted place_many (omega arith) has.index_is in
         let below_part = subst (λ shape. AreBelow shape has.steps) (sym boxes.from_chunk.shape ∙ boxes.from_subset.shape) has.below in
-        let lies = lie_within part.in_subset.start part.in_subset.shape has.steps boxes.from_subset.is_box.lengths below_part in
-        (part, among, subst (AreWithin part.in_subset.start part.in_subset.shape) (sym same) lies)
+        let lies = lie_within part.in_selection.start part.in_selection.shape has.steps boxes.from_subset.is_box.lengths below_part in
+        (part, among, subst (AreWithin part.in_selection.start part.in_selection.shape) (sym same) lies)
 
   pub tiles_apart : AllByRecursion IsChain ds
-      → AllPairs (λ part other. (place : List ℕ) → IsInside part.in_subset place → IsInside other.in_subset place → ⊥) parts
+      → AllPairs (λ part other. (place : List ℕ) → IsInside part.in_selection place → IsInside other.in_selection place → ⊥) parts
   tiles_apart chains =
-      each_two (λ part other. (place : List ℕ) → IsInside part.in_subset place → IsInside other.in_subset place → ⊥)
+      each_two (λ part other. (place : List ℕ) → IsInside part.in_selection place → IsInside other.in_selection place → ⊥)
       (λ one other part next _ _ differ is is_other place inside also.
       differ (same_box _ _ _ _ chains (has_common is (has_at is place inside).1).0 (has_common is_other (has_at is_other place also).1).0))
 
   -- no part is empty
-  pub none_empty : (part : Part) → Contains parts part → ¬ IsEmptyBox part.in_subset
+  pub none_empty : (part : Part) → Contains parts part → ¬ IsEmptyBox part.in_selection
   none_empty part among =
       let (chunk, has, is) = chunk_of part among in
       not_empty is ((plan.is_cover.named chunk).0 ((are_those_inside plan.cover plan.is_cover.is_box chunk).0 has))

@@ -39,16 +39,16 @@ is_counted ds chains chunk (index, box, inside) =
 -- ---- a chunk of the target
 
 -- what is found of a chunk and the whole array is what they share
-module _ (ds : List Dimension) (chunk : List ℕ) (in_chunk in_subset : Box) (boxes : AreShared ds (array_box ds) chunk in_chunk in_subset)
+module _ (ds : List Dimension) (chunk : List ℕ) (in_chunk in_selection : Box) (boxes : AreShared ds (array_box ds) chunk in_chunk in_selection)
     (meets : Meets ds (array_box ds) chunk) where
-  found_start : boxes.shared.start ≡ in_subset.start
+  found_start : boxes.shared.start ≡ in_selection.start
   found_start =
       let (index, box, inside) = meets in
       let many = length_values Holds ds chunk index box in
       let long = within_lengths _ _ index ((boxes.elements index).1 (box, inside)) in
       let shapes = ap length boxes.from_subset.shape in
       boxes.from_subset.start
-      ∙ counted_from_zeros (length ds) in_subset.start (omega (arith, boxes.is_box.lengths, boxes.from_subset.is_box.lengths))
+      ∙ counted_from_zeros (length ds) in_selection.start (omega (arith, boxes.is_box.lengths, boxes.from_subset.is_box.lengths))
 
-  pub found_are : (index : List ℕ) → IsInside in_subset index ↔ IsCommon ds (array_box ds) chunk index
+  pub found_are : (index : List ℕ) → IsInside in_selection index ↔ IsCommon ds (array_box ds) chunk index
   found_are index = rw (found_start, boxes.from_subset.shape) at (boxes.elements index)

@@ -6,7 +6,7 @@ use Rattle.zarrs_chunk_plan.proofs.SameBoxes.{same_box_of}
 use Rattle.zarrs_chunk_plan.proofs.TakenBoxes.{meets_take, taken_common}
 
 module _ (ds : List Dimension) (b : Box) (chunk : List ℕ) (meets : Meets ds b chunk) where
-  module _ (in_chunk in_subset : Box) (boxes : AreShared ds b chunk in_chunk in_subset) where
+  module _ (in_chunk in_selection : Box) (boxes : AreShared ds b chunk in_chunk in_selection) where
     -- what they share is what the chunk takes
     pub shared_is : boxes.shared ≡ taken_box ds b chunk
     shared_is =
@@ -17,13 +17,13 @@ module _ (ds : List Dimension) (b : Box) (chunk : List ℕ) (meets : Meets ds b 
           λ h. (boxes.elements x).1 ((taken_common ds b chunk some x).0 h),
         ))
 
-    pub starts_are : counted_from b.start in_subset.start ≡ taken_starts ds b.start chunk
+    pub starts_are : counted_from b.start in_selection.start ≡ taken_starts ds b.start chunk
     starts_are = sym boxes.from_subset.start ∙ ap (λ (z : Box). z.start) shared_is
 
-    pub sizes_are : in_subset.shape ≡ taken_sizes ds b.start b.shape chunk
+    pub sizes_are : in_selection.shape ≡ taken_sizes ds b.start b.shape chunk
     sizes_are = sym boxes.from_subset.shape ∙ ap (λ (z : Box). z.shape) shared_is
 
-    pub as_many : length in_subset.start ≡ length ds
+    pub as_many : length in_selection.start ≡ length ds
     as_many =
         let many = length_values Holds ds chunk meets.0 meets.1 in
         let long = within_lengths boxes.shared.start boxes.shared.shape meets.0 ((boxes.elements meets.0).1 (meets.1, meets.2)) in

@@ -97,7 +97,7 @@ module _ (ds : List Dimension) (IsKey : List ℕ → List ℕ → Type 0) (chain
           shape = record { items = edges; capacity = 0 };
           whole = whole;
           in_chunk = from_chunk origin edges b;
-          in_subset = from_start origin edges b;
+          in_selection = from_start origin edges b;
         },
         record {
           numbers = refl;

@@ -7,9 +7,9 @@ use Rattle.zarrs_chunk_plan.proofs.Common.{array_box, IsChange, IsChanged, IsUse
 use Rattle.zarrs_chunk_plan.specs.Resize.{AreChanged, AreChangedChunks, IsHeld, IsResizePlan, MayHold}
 use Rattle.zarrs_chunk_plan.specs.declared.resize.changed.ChangedChunks.{ChangedChunks}
 use Rattle.zarrs_chunk_plan.specs.declared.resize.chunk_changes.Changes.{Changes}
-use Rattle.zarrs_chunk_plan.specs.declared.resize.plan.Change.TheVariants.{Delete, Keep, New, Rewrite}
+use Rattle.zarrs_chunk_plan.specs.declared.resize.plan.Change.TheVariants.{Create, Delete, Keep, Rewrite}
 use Rattle.zarrs_chunk_plan.specs.declared.resize.plan.ChunkChange.{ChunkChange}
-use Rattle.zarrs_chunk_plan.specs.declared.resize.plan.Held.{Held}
+use Rattle.zarrs_chunk_plan.specs.declared.resize.plan.ChunkContents.{ChunkContents}
 use Rattle.zarrs_chunk_plan.specs.seen.Changes.{CanChange, GivesChange, IsAboutResize}
 use Rattle.zarrs_chunk_plan.proofs.copy.AskedChunks.{below_or_not}
 use Rattle.zarrs_chunk_plan.proofs.HeldBoxes.{held_elements}
@@ -32,7 +32,7 @@ array_is_box ds fit = from_zero (array_sizes ds) (length ds) (length-map ds (λ 
 
 -- a chunk that is used holds something, and has a key
 has_held : (IsKey : List ℕ → List ℕ → Type 0) → HasKeys IsKey → (ds : List Dimension) → AllByRecursion IsChain ds → AllFit (array_sizes ds)
-    → (chunk : List ℕ) → IsUsed ds chunk → (held : Held) × IsHeld ds chunk held × ((key : List ℕ) × IsKey chunk key)
+    → (chunk : List ℕ) → IsUsed ds chunk → (held : ChunkContents) × IsHeld ds chunk held × ((key : List ℕ) × IsKey chunk key)
 has_held IsKey keys ds chains fit chunk used =
     let (part, is) = has_part ds IsKey chains keys (array_box ds) (array_is_box ds fit) chunk used in (
       record { elements = is.boxes.shared; shape = part.shape },
@@ -46,8 +46,8 @@ has_held IsKey keys ds chains fit chunk used =
       (part.key, is.key),
     )
 
-may_hold : (ds : List Dimension) (chunk used : List ℕ) → AreBelow used chunk ↔ IsUsed ds chunk → (IsUsed ds chunk → (held : Held) × IsHeld ds chunk held)
-    → (held : Option Held) × MayHold ds chunk held
+may_hold : (ds : List Dimension) (chunk used : List ℕ) → AreBelow used chunk ↔ IsUsed ds chunk → (IsUsed ds chunk → (held : ChunkContents) × IsHeld ds chunk held)
+    → (held : Option ChunkContents) × MayHold ds chunk held
 may_hold ds chunk used named holds =
     ⊎_elim (λ below. let (held, is) = holds (named.0 below) in (Some held, (named.0 below, is))) (λ none. (None, λ is_used. none (named.1 is_used)))
     (below_or_not used chunk)
@@ -61,13 +61,13 @@ module _ (before after : List Dimension) (IsKey : List ℕ → List ℕ → Type
 
   module _ (chains : AllByRecursion IsChain before) (also_chains : AllByRecursion IsChain after) (fit : AllFit (array_sizes before))
       (also_fit : AllFit (array_sizes after)) (keys : HasKeys IsKey) (uses : ChangedChunks) (are : AreChangedChunks before after uses) where
-    becomes : (chunk : List ℕ) (one other : Option Held) → MayHold before chunk one → MayHold after chunk other → IsUsedByOne chunk
+    becomes : (chunk : List ℕ) (one other : Option ChunkContents) → MayHold before chunk one → MayHold after chunk other → IsUsedByOne chunk
         → (what : Change) × IsChanged before after chunk what
     becomes chunk (Some _) (Some _) held holds used =
         ⊎_elim (λ below. (Keep, (are.kept.those chunk).0 below)) (λ above. (Rewrite, (held.0, holds.0, λ kept. above ((are.kept.those chunk).1 kept))))
         (below_or_not uses.kept.items chunk)
     becomes chunk (Some _) None held holds used = (Delete, (held.0, holds))
-    becomes chunk None (Some _) held holds used = (New, (holds.0, held))
+    becomes chunk None (Some _) held holds used = (Create, (holds.0, held))
     becomes chunk None None held holds used = absurd (⊎_elim held holds used)
 
     has_change : (chunk : List ℕ) → IsUsedByOne chunk → (change : ChunkChange) × IsChange before after IsKey chunk change
@@ -87,9 +87,9 @@ module _ (before after : List Dimension) (IsKey : List ℕ → List ℕ → Type
     have_changes = each_has IsUsedByOne (IsChange before after IsKey) has_change
 
     -- so there is a plan of the resize
-    pub have_resize : (keeps : Bool) (chunks : List (List ℕ)) → AreChanged before after keeps chunks
-        → (changes : List ChunkChange) × IsResizePlan before after IsKey keeps changes
-    have_resize keeps chunks asked =
+    pub have_resize : (include_unchanged : Bool) (chunks : List (List ℕ)) → AreChanged before after include_unchanged chunks
+        → (changes : List ChunkChange) × IsResizePlan before after IsKey include_unchanged changes
+    have_resize include_unchanged chunks asked =
         let (changes, zipped) = have_changes chunks (all_of_each IsUsedByOne chunks (λ chunk among. ((asked.are_those chunk).0 among).used)) in
         (changes, record { chunks = chunks; are_chunks = asked; are_changes = zipped })
 
@@ -151,7 +151,7 @@ module _ {G H E : Type 0} (dimensions_before : G → List Dimension) (dimensions
       (others, rw left (both_zipped IsChangeOf chunks (changes_to_come now) came others are also))
 
 -- the chunks of which a change is asked for are used
-pub asked_are_used : (before after : List Dimension) (keeps : Bool) (chunks : List (List ℕ)) → AreChanged before after keeps chunks
+pub asked_are_used : (before after : List Dimension) (include_unchanged : Bool) (chunks : List (List ℕ)) → AreChanged before after include_unchanged chunks
     → AllByRecursion (λ chunk. IsUsed before chunk ⊎ IsUsed after chunk) chunks
-asked_are_used before after keeps chunks are =
+asked_are_used before after include_unchanged chunks are =
     all_of_each (λ chunk. IsUsed before chunk ⊎ IsUsed after chunk) chunks (λ chunk among. ((are.are_those chunk).0 among).used)

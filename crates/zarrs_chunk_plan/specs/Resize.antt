@@ -10,9 +10,9 @@ use Rattle.zarrs_chunk_parts.specs.Plan.{Meets}
 use Rattle.zarrs_chunk_plan.specs.ArrayBoxes.{array_box}
 use Rattle.zarrs_chunk_plan.specs.declared.resize.changed.ChangedChunks.{ChangedChunks}
 use Rattle.zarrs_chunk_plan.specs.declared.resize.plan.Change.{Change}
-use Rattle.zarrs_chunk_plan.specs.declared.resize.plan.Change.TheVariants.{Delete, Keep, New, Rewrite}
+use Rattle.zarrs_chunk_plan.specs.declared.resize.plan.Change.TheVariants.{Create, Delete, Keep, Rewrite}
 use Rattle.zarrs_chunk_plan.specs.declared.resize.plan.ChunkChange.{ChunkChange}
-use Rattle.zarrs_chunk_plan.specs.declared.resize.plan.Held.{Held}
+use Rattle.zarrs_chunk_plan.specs.declared.resize.plan.ChunkContents.{ChunkContents}
 
 -- An index below both array sizes lies in the same chunk of either. So it is of grids that one configuration makes.
 pub record IsResized (before after : Dimension) : Type 0 where
@@ -41,16 +41,16 @@ abbrev pub IsChanged : (before after : List Dimension) → List ℕ → Change �
 IsChanged before after chunk Keep = IsKept before after chunk
 IsChanged before after chunk Rewrite = IsUsed before chunk × IsUsed after chunk × (¬ IsKept before after chunk)
 IsChanged before after chunk Delete = IsUsed before chunk × (¬ IsUsed after chunk)
-IsChanged before after chunk New = IsUsed after chunk × (¬ IsUsed before chunk)
+IsChanged before after chunk Create = IsUsed after chunk × (¬ IsUsed before chunk)
 
 -- what the chunk holds of the array, as a box of the array, and the chunk's shape
-pub record IsHeld (ds : List Dimension) (chunk : List ℕ) (held : Held) : Type 0 where
+pub record IsHeld (ds : List Dimension) (chunk : List ℕ) (held : ChunkContents) : Type 0 where
   pub is_box : IsBox held.elements
   pub elements : (index : List ℕ) → IsInside held.elements index ↔ HasElementOf ds chunk index
   pub shape : IsShape ds chunk held.shape.items
 
 -- and nothing, where it holds no element of the array
-abbrev pub MayHold : List Dimension → List ℕ → Option Held → Type 0
+abbrev pub MayHold : List Dimension → List ℕ → Option ChunkContents → Type 0
 MayHold ds chunk held = MatchOption held (¬ IsUsed ds chunk) (λ held. IsUsed ds chunk × IsHeld ds chunk held)
 
 -- the change of a chunk: its numbers, a key of it, what it held and what it is to hold, and what becomes of it
@@ -62,19 +62,19 @@ pub record IsChange (before after : List Dimension) (IsKey : List ℕ → List �
   pub what : IsChanged before after chunk change.what
 
 -- the chunk is one that either array uses; one that is kept, only where these are wanted
-pub record IsAsked (before after : List Dimension) (keeps : Bool) (chunk : List ℕ) : Type 0 where
+pub record IsAsked (before after : List Dimension) (include_unchanged : Bool) (chunk : List ℕ) : Type 0 where
   pub used : IsUsed before chunk ⊎ IsUsed after chunk
-  pub wanted : IsTrue keeps ⊎ (¬ IsKept before after chunk)
+  pub wanted : IsTrue include_unchanged ⊎ (¬ IsKept before after chunk)
 
 -- these are the chunks of which a change is asked for, each once
-pub record AreChanged (before after : List Dimension) (keeps : Bool) (chunks : List (List ℕ)) : Type 0 where
+pub record AreChanged (before after : List Dimension) (include_unchanged : Bool) (chunks : List (List ℕ)) : Type 0 where
   pub once : AllPairs (λ one other. one ≢ other) chunks
-  pub are_those : (chunk : List ℕ) → Contains chunks chunk ↔ IsAsked before after keeps chunk
+  pub are_those : (chunk : List ℕ) → Contains chunks chunk ↔ IsAsked before after include_unchanged chunk
 
 -- the plan of a resize: a change for each of them, in any order
-pub record IsResizePlan (before after : List Dimension) (IsKey : List ℕ → List ℕ → Type 0) (keeps : Bool) (changes : List ChunkChange) : Type 0 where
+pub record IsResizePlan (before after : List Dimension) (IsKey : List ℕ → List ℕ → Type 0) (include_unchanged : Bool) (changes : List ChunkChange) : Type 0 where
   pub chunks : List (List ℕ)
-  pub are_chunks : AreChanged before after keeps chunks
+  pub are_chunks : AreChanged before after include_unchanged chunks
   pub are_changes : AllZip (IsChange before after IsKey) chunks changes
 
 -- The chunks of this property are those whose numbers are below a list, which has a number for each dimension. Without such a chunk each number is 0.

@@ -33,7 +33,7 @@ ghost use Rattle.zarrs_chunk_plan.specs.Bytes.{FindsRanges};
 ghost use Rattle.zarrs_chunk_parts.specs.Plan.{HasElement, IsPart, IsPlan};
 ghost use Rattle.zarrs_chunk_plan.specs.Resize.{AreChanged, AreChangedChunks, AreResized, HasElementOf, IsAsked, IsChange, IsChanged, IsKept, IsResizePlan, IsUsed};
 ghost use Rattle.zarrs_chunk_plan.specs.declared.resize.changed.ChangedChunks.{ChangedChunks};
-ghost use Rattle.zarrs_chunk_plan.specs.declared.resize.plan.Change.TheVariants.{Delete, Keep, New, Rewrite};
+ghost use Rattle.zarrs_chunk_plan.specs.declared.resize.plan.Change.TheVariants.{Create, Delete, Keep, Rewrite};
 ghost use Rattle.zarrs_chunk_plan.specs.Shares.{numbered_share};
 ghost use Rattle.zarrs_chunk_plan.specs.Strided.{form_of, ranges_of};
 ghost use Rattle.zarrs_chunk_plan.specs.declared.bytes.ranges.ByteRanges.{ByteRanges as ByteRangesValue};
@@ -115,14 +115,14 @@ pub fn the_parts_tile_the_box<G: ChunkGridTraits, E: ChunkKeyEncodingTraits>(
     ensures all { (parts : List Part)
         → IsPlan (G.dimensions grid.now) (E.is_key encoding.now) array_subset.now parts
         → (place : List ℕ) → AreBelow array_subset.now.shape place
-        ↔ ((part : Part) × Contains parts part × IsInside part.in_subset place) }
+        ↔ ((part : Part) × Contains parts part × IsInside part.in_selection place) }
     ensures apart { (parts : List Part)
         → IsPlan (G.dimensions grid.now) (E.is_key encoding.now) array_subset.now parts
-        → AllPairs (λ part other. (place : List ℕ) → IsInside part.in_subset place
-        → IsInside other.in_subset place → ⊥) parts }
+        → AllPairs (λ part other. (place : List ℕ) → IsInside part.in_selection place
+        → IsInside other.in_selection place → ⊥) parts }
     ensures not_empty { (parts : List Part)
         → IsPlan (G.dimensions grid.now) (E.is_key encoding.now) array_subset.now parts
-        → (part : Part) → Contains parts part → ¬ IsEmptyBox part.in_subset }
+        → (part : Part) → Contains parts part → ¬ IsEmptyBox part.in_selection }
 {
     array_subset.is_a_box();
 }
@@ -155,12 +155,12 @@ pub fn the_walk_gives_the_resize<G: ChunkGridTraits, H: ChunkGridTraits, E: Chun
         → CanChange G.dimensions H.dimensions walk
         → Drains (GivesChange G.dimensions H.dimensions E.is_key) walk (map Ok changes)
         → AreChangesToCome G.dimensions H.dimensions E.is_key walk changes }
-    ensures plan { (keeps : Bool) (walk : Changes G H E) (changes : List ChunkChange)
-        → AreChanged (G.dimensions before.now) (H.dimensions after.now) keeps (changes_to_come walk)
+    ensures plan { (include_unchanged : Bool) (walk : Changes G H E) (changes : List ChunkChange)
+        → AreChanged (G.dimensions before.now) (H.dimensions after.now) include_unchanged (changes_to_come walk)
         → IsAboutResize before.now after.now encoding.now walk
         → AreChangesToCome G.dimensions H.dimensions E.is_key walk changes
         → IsResizePlan (G.dimensions before.now) (H.dimensions after.now) (E.is_key encoding.now)
-        keeps changes }
+        include_unchanged changes }
 {}
 
 /// In the plan of a resize each chunk of which a change is asked for has one, and no other chunk has. If the grids are those of a resize, no two
@@ -171,10 +171,10 @@ pub fn each_chunk_has_one_change<G: ChunkGridTraits, H: ChunkGridTraits, E: Chun
     after: &H,
     encoding: &E,
 )
-    ensures one { (keeps : Bool) (changes : List ChunkChange)
+    ensures one { (include_unchanged : Bool) (changes : List ChunkChange)
         → IsResizePlan (G.dimensions before.now) (H.dimensions after.now) (E.is_key encoding.now)
-        keeps changes → (chunk : List ℕ)
-        → IsAsked (G.dimensions before.now) (H.dimensions after.now) keeps chunk
+        include_unchanged changes → (chunk : List ℕ)
+        → IsAsked (G.dimensions before.now) (H.dimensions after.now) include_unchanged chunk
         → (change : ChunkChange) × Contains changes change
         × IsChange (G.dimensions before.now) (H.dimensions after.now) (E.is_key encoding.now)
         chunk change }
@@ -185,16 +185,16 @@ pub fn each_chunk_has_one_change<G: ChunkGridTraits, H: ChunkGridTraits, E: Chun
         → (change : ChunkChange) × Contains changes change
         × IsChange (G.dimensions before.now) (H.dimensions after.now) (E.is_key encoding.now)
         chunk change }
-    ensures nothing_else { (keeps : Bool) (changes : List ChunkChange)
+    ensures nothing_else { (include_unchanged : Bool) (changes : List ChunkChange)
         → IsResizePlan (G.dimensions before.now) (H.dimensions after.now) (E.is_key encoding.now)
-        keeps changes → (change : ChunkChange) → Contains changes change → (chunk : List ℕ)
-        × IsAsked (G.dimensions before.now) (H.dimensions after.now) keeps chunk
+        include_unchanged changes → (change : ChunkChange) → Contains changes change → (chunk : List ℕ)
+        × IsAsked (G.dimensions before.now) (H.dimensions after.now) include_unchanged chunk
         × IsChange (G.dimensions before.now) (H.dimensions after.now) (E.is_key encoding.now)
         chunk change }
     ensures one_key { length (G.dimensions before.now) ≡ length (H.dimensions after.now)
-        → (keeps : Bool) (changes : List ChunkChange)
+        → (include_unchanged : Bool) (changes : List ChunkChange)
         → IsResizePlan (G.dimensions before.now) (H.dimensions after.now) (E.is_key encoding.now)
-        keeps changes → AllPairs (λ change other. change.key ≢ other.key) changes }
+        include_unchanged changes → AllPairs (λ change other. change.key ≢ other.key) changes }
     ensures no_other { (chunk : List ℕ) (what other : Change)
         → IsChanged (G.dimensions before.now) (H.dimensions after.now) chunk what
         → IsChanged (G.dimensions before.now) (H.dimensions after.now) chunk other → what ≡ other }
@@ -209,11 +209,11 @@ pub fn there_is_a_resize<G: ChunkGridTraits, H: ChunkGridTraits, E: ChunkKeyEnco
     after: &H,
     encoding: &E,
 )
-    ensures { (uses : ChangedChunks) (keeps : Bool) (chunks : List (List ℕ))
+    ensures { (uses : ChangedChunks) (include_unchanged : Bool) (chunks : List (List ℕ))
         → AreChangedChunks (G.dimensions before.now) (H.dimensions after.now) uses
-        → AreChanged (G.dimensions before.now) (H.dimensions after.now) keeps chunks
+        → AreChanged (G.dimensions before.now) (H.dimensions after.now) include_unchanged chunks
         → (changes : List ChunkChange) × IsResizePlan (G.dimensions before.now)
-        (H.dimensions after.now) (E.is_key encoding.now) keeps changes }
+        (H.dimensions after.now) (E.is_key encoding.now) include_unchanged changes }
 {
     all_fit(before.array_shape());
     all_fit(after.array_shape());
@@ -278,7 +278,7 @@ pub fn each_element_that_leaves_or_comes_changes_its_chunk<G: ChunkGridTraits, H
     ensures comes { (chunk index : List ℕ) → HasElementOf (H.dimensions after.now) chunk index
         → (¬ HasElementOf (G.dimensions before.now) chunk index) → (what : Change)
         → IsChanged (G.dimensions before.now) (H.dimensions after.now) chunk what
-        → (what ≡ Rewrite) ⊎ (what ≡ New) }
+        → (what ≡ Rewrite) ⊎ (what ≡ Create) }
 {}
 
 /// The byte ranges that are answered of a box, in their strided form, have the bytes of the box's elements and no other: they ascend, no byte is in

@@ -7,10 +7,10 @@
 //!
 //! ```text
 //! RegularChunkGrid, array shape [6, 6], chunk shape [4, 3], default keys with `/`, box [3..6, 2..4]
-//!   key c/0/0  chunk [0, 0]  in_chunk [3..4, 2..3]  in_subset [0..1, 0..1]
-//!   key c/0/1  chunk [0, 1]  in_chunk [3..4, 0..1]  in_subset [0..1, 1..2]
-//!   key c/1/0  chunk [1, 0]  in_chunk [0..2, 2..3]  in_subset [1..3, 0..1]
-//!   key c/1/1  chunk [1, 1]  in_chunk [0..2, 0..1]  in_subset [1..3, 1..2]
+//!   key c/0/0  chunk [0, 0]  in_chunk [3..4, 2..3]  in_selection [0..1, 0..1]
+//!   key c/0/1  chunk [0, 1]  in_chunk [3..4, 0..1]  in_selection [0..1, 1..2]
+//!   key c/1/0  chunk [1, 0]  in_chunk [0..2, 2..3]  in_selection [1..3, 0..1]
+//!   key c/1/1  chunk [1, 1]  in_chunk [0..2, 0..1]  in_selection [1..3, 1..2]
 //! ```
 //!
 //! A [`Part`] is of `zarrs_chunk_parts`: a chunk, its key and its shape, two boxes, and whether they are all that the chunk has of the array.
@@ -52,7 +52,7 @@ pub use read::plan::parts;
 pub use read::walk::Parts;
 pub use resize::changed::{ChangedChunks, changed_chunks};
 pub use resize::chunk_changes::Changes;
-pub use resize::plan::{Change, ChunkChange, Held, changes};
+pub use resize::plan::{Change, ChunkChange, ChunkContents, changes};
 pub use shares::chunk_iter::ChunkIter;
 pub use shares::numbered_chunks::{chunk_at, count_below};
 pub use shares::share::Share;

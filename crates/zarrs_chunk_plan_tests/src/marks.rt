@@ -75,10 +75,10 @@ fn no_chunk_beside_the_plan_is_stored(rt: HostRuntime) -> Result<(), Fail> {
         "c/0/0/0/0/150",
     ] {
         let is_of_array = note(alloc, &mut stored, &array, key)?;
-        assert!(&rt; is_of_array, "a chunk of the array is foreign");
+        assert!(&rt; is_of_array, "a chunk of the array is unexpected");
     }
     let is_of_array = note(alloc, &mut stored, &array, "c/0/0/0/0/200")?;
-    assert!(&rt; !is_of_array, "a chunk past the array is not foreign");
+    assert!(&rt; !is_of_array, "a chunk past the array is not unexpected");
     check_text(&rt, numbers_of(alloc, &stored)?.as_str(), " 50 114 149");
     Ok(())
 }

@@ -39,7 +39,7 @@ pub(crate) fn append_part(alloc: Global, lines: &mut String, part: &Part) -> Res
         "{} {:?} {:?} {:?}\n",
         part.key.as_str(),
         part.in_chunk.start(),
-        part.in_subset.start(),
+        part.in_selection.start(),
         part.in_chunk.shape()
     )?;
     lines.push_str(line.as_str())?;

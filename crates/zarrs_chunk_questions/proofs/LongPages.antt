@@ -169,25 +169,25 @@ part_least ds = 2 * (5 * length ds) + 1
 module _ {ds : List Dimension} {IsKey : List ℕ → List ℕ → Type 0} {b : Box} {chunk : List ℕ} {part : Part} (is : IsPart ds IsKey b chunk part)
     (meets : Meets ds b chunk) where
   pub lists_long : (length b.start ≡ length ds) × (length part.chunk.items ≡ length ds) × (length part.in_chunk.start ≡ length ds)
-      × (length part.in_chunk.shape ≡ length ds) × (length part.in_subset.start ≡ length ds) × (length part.in_subset.shape ≡ length ds)
+      × (length part.in_chunk.shape ≡ length ds) × (length part.in_selection.start ≡ length ds) × (length part.in_selection.shape ≡ length ds)
   lists_long =
       let (index, box, inside) = meets in
       let long = all_long is index (box, inside) in
       let numbers = ap length is.numbers ∙ length_numbers Holds ds chunk index box in
       let in_chunk = ap length is.boxes.from_chunk.shape in
-      let in_subset = ap length is.boxes.from_subset.shape in
+      let in_selection = ap length is.boxes.from_subset.shape in
       (omega arith, numbers, omega arith, omega arith, omega arith, omega arith)
 
   pub part_long : part_least ds ≤ text_long (part_tree part)
   part_long =
       let (_, numbers, start, shape, also_start, also_shape) = lists_long in
-      three_long (length ds) (codes "chunk") (codes "in_chunk") (codes "in_subset") part.chunk.items part.in_chunk part.in_subset (the_key part)
+      three_long (length ds) (codes "chunk") (codes "in_chunk") (codes "in_selection") part.chunk.items part.in_chunk part.in_selection (the_key part)
       numbers start shape also_start also_shape
 
   overlap_long : (written : Bool) → part_least ds ≤ text_long (overlap_tree written part)
   overlap_long written =
       let (_, numbers, start, shape, also_start, also_shape) = lists_long in
-      three_long (length ds) (codes "chunk") (codes "in_buffer") (codes "in_chunk") part.chunk.items part.in_subset part.in_chunk
+      three_long (length ds) (codes "chunk") (codes "in_buffer") (codes "in_chunk") part.chunk.items part.in_selection part.in_chunk
       (behind_boxes written part) numbers also_start also_shape start shape
 
 -- each of parts, of chunks that hold elements of the box

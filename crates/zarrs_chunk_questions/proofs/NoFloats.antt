@@ -97,7 +97,7 @@ of_part chunk b other = grind (arith, no_float_in_numbers, a_box)
 of_some_parts : (first in_all : ℕ) (parts : List Part) → HasNone (parts_tree first in_all parts)
 of_some_parts first in_all parts =
     of_page (map part_tree parts) (is_more first (length parts) in_all)
-    (no_float_mapped part_tree (λ part. of_part part.chunk.items part.in_chunk part.in_subset) parts)
+    (no_float_mapped part_tree (λ part. of_part part.chunk.items part.in_chunk part.in_selection) parts)
 
 of_overlap : (written : Bool) (part : Part) → HasNone (overlap_tree written part)
 of_overlap written part = grind (arith, no_float_in_numbers, a_box)

@@ -80,7 +80,7 @@ abbrev pub part_tree : Part → Data
 part_tree part =
     object (member (codes "chunk") (numbers_tree part.chunk.items)
     (member (codes "in_chunk") (box_tree part.in_chunk)
-    (member (codes "in_subset") (box_tree part.in_subset)
+    (member (codes "in_selection") (box_tree part.in_selection)
     (member (codes "key") (string part.key) no_members))))
 
 abbrev pub parts_tree : (first in_all : ℕ) → List Part → Data

@@ -85,7 +85,7 @@ whole_if false part = no_members
 abbrev pub overlap_members : Part → (more : Members) → Members
 overlap_members part more =
     member (codes "chunk") (numbers_tree part.chunk.items)
-    (member (codes "in_buffer") (box_tree part.in_subset)
+    (member (codes "in_buffer") (box_tree part.in_selection)
     (member (codes "in_chunk") (box_tree part.in_chunk)
     (member (codes "key") (string part.key)
     (member (codes "shape") (numbers_tree part.shape.items) more))))

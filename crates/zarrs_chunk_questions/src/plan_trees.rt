@@ -11,18 +11,18 @@ use zarrs_chunk_base::{write_box, write_list};
 use zarrs_chunk_plan::Part;
 use zarrs_chunk_tasks::Task;
 
-/// The tree of a part of a read: `{"chunk":[..],"in_chunk":[start,shape],"in_subset":[start,shape],"key":".."}`.
+/// The tree of a part of a read: `{"chunk":[..],"in_chunk":[start,shape],"in_selection":[start,shape],"key":".."}`.
 pub(crate) fn part_tree(alloc: Global, part: &Part) -> Result<Value, AllocError>
     ensures { IfOk result (λ tree. view tree ≡ tree_of_part part.now) }
 {
     let chunk = write_list(alloc, part.chunk.as_slice())?;
     let in_chunk = write_box(alloc, &part.in_chunk)?;
-    let in_subset = write_box(alloc, &part.in_subset)?;
+    let in_selection = write_box(alloc, &part.in_selection)?;
     let key = Value::try_from_str(alloc, part.key.as_str())?;
     let mut members = Map::new(alloc);
     serde_json::put(&mut members, alloc, "chunk", chunk)?;
     serde_json::put(&mut members, alloc, "in_chunk", in_chunk)?;
-    serde_json::put(&mut members, alloc, "in_subset", in_subset)?;
+    serde_json::put(&mut members, alloc, "in_selection", in_selection)?;
     serde_json::put(&mut members, alloc, "key", key)?;
     Ok(Value::Object(members))
 }
@@ -32,7 +32,7 @@ fn overlap_members(alloc: Global, part: &Part) -> Result<Map<String, Value>, All
     ensures { IfOk result (λ members. members_view members.entries ≡ members_of_overlap part.now no_members) }
 {
     let chunk = write_list(alloc, part.chunk.as_slice())?;
-    let in_buffer = write_box(alloc, &part.in_subset)?;
+    let in_buffer = write_box(alloc, &part.in_selection)?;
     let in_chunk = write_box(alloc, &part.in_chunk)?;
     let key = Value::try_from_str(alloc, part.key.as_str())?;
     let shape = write_list(alloc, part.shape.as_slice())?;

@@ -21,7 +21,7 @@ use serde_json::Value;
 use std::alloc::{AllocError, Global};
 use zarrs_chunk_base::Refusal;
 use zarrs_chunk_keys::ChunkKeyEncoding;
-use zarrs_chunk_parts::expect_answer;
+use zarrs_chunk_parts::found_or_out_of_memory;
 use zarrs_chunk_plan::{Part, Parts, parts};
 use zarrs_chunk_tasks::{Task, Tasks};
 use zarrs_chunks::{ChunkGrid, ChunkGridTraits};
@@ -109,8 +109,8 @@ fn tree_of(
 {
     task.source.is_a_box();
     task.target.is_a_box();
-    let from = expect_answer(parts(alloc, &source.grid, &source.encoding, &task.source))?;
-    let into = expect_answer(parts(alloc, &target.grid, &target.encoding, &task.target))?;
+    let from = found_or_out_of_memory(parts(alloc, &source.grid, &source.encoding, &task.source))?;
+    let into = found_or_out_of_memory(parts(alloc, &target.grid, &target.encoding, &task.target))?;
     let Some(read) = parts_below(alloc, from, too_many)? else {
         return Ok(None);
     };

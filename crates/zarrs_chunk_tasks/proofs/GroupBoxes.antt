@@ -233,7 +233,7 @@ zeros_empty (suc n) some = (0, omega arith, refl)
 
 -- what a chunk and a box share, which hold some of each other
 pub shares : (ds : List Dimension) (b : Box) (chunk : List ℕ) → IsBox b → Meets ds b chunk
-    → (in_chunk in_subset : Box) × AreShared ds b chunk in_chunk in_subset
+    → (in_chunk in_selection : Box) × AreShared ds b chunk in_chunk in_selection
 shares ds b chunk is_box meets =
     let (index, box, inside) = meets in
     let (origin, is, _) = has_origin ds chunk index box (inside_fits b.start b.shape index is_box.fits inside) in
@@ -305,9 +305,9 @@ module _ (ds : List Dimension) (each : List NonZeroU64) (chains : AllByRecursion
   )
 
   -- and what it holds of the box is what both share
-  pub shared_is_buffer : (b : Box) (group : List ℕ) (in_chunk in_subset : Box) → AreShared (groups ds each) b group in_chunk in_subset
-      → IsBuffer ds (numbers each) b group (shifted b.start in_subset)
-  shared_is_buffer b group in_chunk in_subset boxes =
+  pub shared_is_buffer : (b : Box) (group : List ℕ) (in_chunk in_selection : Box) → AreShared (groups ds each) b group in_chunk in_selection
+      → IsBuffer ds (numbers each) b group (shifted b.start in_selection)
+  shared_is_buffer b group in_chunk in_selection boxes =
       rw (← boxes.from_subset.start, ← boxes.from_subset.shape) (record {
         is_box = boxes.is_box;
         elements = λ index. (
@@ -319,9 +319,9 @@ module _ (ds : List Dimension) (each : List NonZeroU64) (chains : AllByRecursion
   pub taken_is_buffer : (b : Box) (group : List ℕ) → IsBox b → Meets (groups ds each) b group
       → IsBuffer ds (numbers each) b group (taken_box (groups ds each) b group)
   taken_is_buffer b group is_box meets =
-      let (in_chunk, in_subset, boxes) = shares (groups ds each) b group is_box meets in
-      rw (starts_are (groups ds each) b group meets in_chunk in_subset boxes, sizes_are (groups ds each) b group meets in_chunk in_subset boxes)
-      at (shared_is_buffer b group in_chunk in_subset boxes)
+      let (in_chunk, in_selection, boxes) = shares (groups ds each) b group is_box meets in
+      rw (starts_are (groups ds each) b group meets in_chunk in_selection boxes, sizes_are (groups ds each) b group meets in_chunk in_selection boxes)
+      at (shared_is_buffer b group in_chunk in_selection boxes)
 
   module _ (elements cover : Box) (is_box : IsBox elements) (is : IsCover ds elements cover) where
     pub over : AreOver ds elements.start elements.shape cover.start (lasts cover.start cover.shape)

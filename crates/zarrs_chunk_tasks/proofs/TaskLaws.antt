@@ -70,25 +70,25 @@ pub record MovesBehind (ds : List Dimension) (each : List ℕ) (elements : Box) 
 module _ {ds : List Dimension} {each : List ℕ} {elements : Box} {first at : List ℕ} (elements_long : length elements.start ≡ length elements.shape)
     (first_long : length first ≡ length elements.start) (at_long : length at ≡ length elements.start) where
   module _ {group : List ℕ} {task : Task} (is : IsTask ds each elements first at group task) where
-    abbrev steps_to : List ℕ
-    steps_to = is.behind.start
+    abbrev distance : List ℕ
+    distance = is.behind.start
 
     -- the buffer has as many dimensions as the elements
-    steps_long : (index : List ℕ) → IsInside (shifted elements.start is.behind) index → IsInside elements index → length steps_to ≡ length elements.start
+    steps_long : (index : List ℕ) → IsInside (shifted elements.start is.behind) index → IsInside elements index → length distance ≡ length elements.start
     steps_long index within inside =
         let there = within_lengths _ _ index within in
         let here = within_lengths _ _ index inside in
         omega (arith, is.buffer.is_box.lengths, is.is_box.lengths)
 
-    counted_long : (steps : List ℕ) → AreBelow is.behind.shape steps → length (counted_from steps_to steps) ≡ length steps_to
-    counted_long steps below = length_counted steps_to steps (omega (arith, length_below is.behind.shape steps below, is.is_box.lengths))
+    counted_long : (steps : List ℕ) → AreBelow is.behind.shape steps → length (counted_from distance steps) ≡ length distance
+    counted_long steps below = length_counted distance steps (omega (arith, length_below is.behind.shape steps below, is.is_box.lengths))
 
     pub moves_only : (index to : List ℕ) → Moves task index to → MovesBehind ds each elements first at group index to
     moves_only index to there =
         let below : AreBelow is.behind.shape there.behind = subst (λ (b : Box). AreBelow b.shape there.behind) is.source there.below in
-        let behind = counted_from steps_to there.behind in
-        let within = lie_within (counted_from elements.start steps_to) is.behind.shape there.behind is.buffer.is_box.lengths below in
-        let same = added elements.start steps_to there.behind in
+        let behind = counted_from distance there.behind in
+        let within = lie_within (counted_from elements.start distance) is.behind.shape there.behind is.buffer.is_box.lengths below in
+        let same = added elements.start distance there.behind in
         let (inside, in_group) = (is.buffer.elements _).0 within in
         let long = steps_long _ within inside in
         let (steps, steps_below, counted) = offset_of elements.start elements.shape _ inside in
@@ -99,8 +99,8 @@ module _ {ds : List Dimension} {each : List ℕ} {elements : Box} {first at : Li
         record {
           behind = behind;
           below = subst (AreBelow elements.shape) (sym behind_is) steps_below;
-          from = there.from ∙ ap (λ (b : Box). counted_from b.start there.behind) is.source ∙ sym (added first steps_to there.behind);
-          into = there.into ∙ ap (λ (b : Box). counted_from b.start there.behind) is.target ∙ sym (added at steps_to there.behind);
+          from = there.from ∙ ap (λ (b : Box). counted_from b.start there.behind) is.source ∙ sym (added first distance there.behind);
+          into = there.into ∙ ap (λ (b : Box). counted_from b.start there.behind) is.target ∙ sym (added at distance there.behind);
           in_group = subst (InGroup ds each group) (sym same) in_group;
         }
 
@@ -109,17 +109,17 @@ module _ {ds : List Dimension} {each : List ℕ} {elements : Box} {first at : Li
         let inside = lie_within elements.start elements.shape there.behind elements_long there.below in
         let within = (is.buffer.elements _).1 (inside, there.in_group) in
         let long = steps_long _ within inside in
-        let (steps, below, counted) = offset_of (counted_from elements.start steps_to) is.behind.shape _ within in
-        let behind_is : counted_from steps_to steps ≡ there.behind =
-        counted_once elements.start (counted_from steps_to steps) there.behind (omega (arith, counted_long steps below))
-        (omega (arith, length_below elements.shape there.behind there.below, elements_long)) (added elements.start steps_to steps ∙ counted)
+        let (steps, below, counted) = offset_of (counted_from elements.start distance) is.behind.shape _ within in
+        let behind_is : counted_from distance steps ≡ there.behind =
+        counted_once elements.start (counted_from distance steps) there.behind (omega (arith, counted_long steps below))
+        (omega (arith, length_below elements.shape there.behind there.below, elements_long)) (added elements.start distance steps ∙ counted)
         in
         record {
           behind = steps;
           below = subst (λ (b : Box). AreBelow b.shape steps) (sym is.source) below;
-          from = there.from ∙ ap (counted_from first) (sym behind_is) ∙ added first steps_to steps
+          from = there.from ∙ ap (counted_from first) (sym behind_is) ∙ added first distance steps
               ∙ ap (λ (b : Box). counted_from b.start steps) (sym is.source);
-          into = there.into ∙ ap (counted_from at) (sym behind_is) ∙ added at steps_to steps
+          into = there.into ∙ ap (counted_from at) (sym behind_is) ∙ added at distance steps
               ∙ ap (λ (b : Box). counted_from b.start steps) (sym is.target);
         }
 

@@ -24,13 +24,13 @@ use Rattle.zarrs_chunk_tasks.proofs.TaskLaws.{same_chunk}
 -- a part has an element at the place of the buffer that lies as far after its first place as the element after the box's first one
 at_place : {ds : List Dimension} {IsKey : List ℕ → List ℕ → Type 0} {b : Box} {parts : List Part} (plan : IsPlan ds IsKey b parts) (part : Part)
     → Contains parts part → (index place behind : List ℕ) (has : HasElement b part index place) → length behind ≡ length b.start
-    → index ≡ counted_from b.start behind → counted_from part.in_subset.start has.steps ≡ behind
+    → index ≡ counted_from b.start behind → counted_from part.in_selection.start has.steps ≡ behind
 at_place {b = b} plan part among index place behind has behind_long is =
     let (chunk, _, is_part) = chunk_of plan part among in
     let long = all_long is_part index (has_common is_part has) in
     let steps = length_below part.in_chunk.shape has.steps has.below in
-    counted_once b.start (counted_from part.in_subset.start has.steps) behind
-    (omega (arith, length_counted part.in_subset.start has.steps (omega (arith, long.3, long.4, steps)), long.1, long.4)) behind_long
+    counted_once b.start (counted_from part.in_selection.start has.steps) behind
+    (omega (arith, length_counted part.in_selection.start has.steps (omega (arith, long.3, long.4, steps)), long.1, long.4)) behind_long
     (sym has.index_is ∙ is)
 
 pub by_buffer : {source target : List Dimension} {IsSourceKey IsTargetKey : List ℕ → List ℕ → Type 0} (task : Task) (from into : List Part)

@@ -93,7 +93,7 @@ pub record GoesByBuffer (task : Task) (from into : List Part) (index to : List �
   pub among_written : Contains into write
   pub to_place : List ℕ
   pub writes : HasElement task.target write to to_place
-  pub in_buffer : counted_from read.in_subset.start reads.steps ≡ counted_from write.in_subset.start writes.steps
+  pub in_buffer : counted_from read.in_selection.start reads.steps ≡ counted_from write.in_selection.start writes.steps
 
 -- The copy has tasks: there are as many numbers of chunks as dimensions, and the region lies in both arrays.
 pub record HasTasks (source target : List ℕ) (region : Box) (at each : List ℕ) : Type 0 where

@@ -68,8 +68,8 @@ pub(crate) fn buffer_of<G: ChunkGridTraits>(
     };
     let first = first_chunks(alloc, each, group, cover.start())?;
     let last = last_chunks(alloc, each, group, &last)?;
-    let begins = shared_elements(alloc, grid, elements, &first)?.in_subset;
-    let ends = shared_elements(alloc, grid, elements, &last)?.in_subset;
+    let begins = shared_elements(alloc, grid, elements, &first)?.in_selection;
+    let ends = shared_elements(alloc, grid, elements, &last)?.in_selection;
     let shape = reaches(alloc, begins.start(), ends.start(), ends.shape())?;
     let start = Vec::from_slice(alloc, begins.start())?;
     Ok(made_box(start, shape)?)

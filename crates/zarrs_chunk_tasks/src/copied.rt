@@ -12,7 +12,7 @@ use crate::groups_along::GroupsAlong;
 use std::alloc::{AllocError, Global};
 use std::num::NonZeroU64;
 use zarrs_chunk_base::ArraySubset;
-use zarrs_chunk_parts::expect_answer;
+use zarrs_chunk_parts::found_or_out_of_memory;
 use zarrs_chunks::ChunkGridTraits;
 
 /// Where elements lie in two arrays.
@@ -60,7 +60,7 @@ pub(crate) fn groups_with<'a, K: ChunkGridTraits>(
     ensures is_box { IsBox elements.now }
 {
     elements.is_a_box();
-    let cover = expect_answer(grid.chunks_in_array_subset(alloc, elements))?;
+    let cover = found_or_out_of_memory(grid.chunks_in_array_subset(alloc, elements))?;
     let groups = groups_over(alloc, grid, elements, each, &cover)?;
     let Some(last) = cover.end_inc(alloc)? else {
         return Ok(None);

@@ -16,7 +16,7 @@ use crate::tried::choices_of;
 use std::alloc::{AllocError, Global};
 use std::num::NonZeroU64;
 use zarrs_chunk_base::ArraySubset;
-use zarrs_chunk_parts::expect_answer;
+use zarrs_chunk_parts::found_or_out_of_memory;
 use zarrs_chunks::ChunkGridTraits;
 
 /// Up to how many pieces along a dimension each edge is tried.
@@ -141,7 +141,7 @@ fn longest_edges<G: ChunkGridTraits>(
     ensures some { IfOk result (λ edges. AllByRecursion (λ edge. 0 < edge) edges.items) }
 {
     elements.is_a_box();
-    let cover = expect_answer(grid.chunks_in_array_subset(alloc, elements))?;
+    let cover = found_or_out_of_memory(grid.chunks_in_array_subset(alloc, elements))?;
     let first = cover.start();
     let many = cover.shape();
     let mut edges = Vec::new(alloc);

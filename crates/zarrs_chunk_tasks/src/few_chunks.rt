@@ -6,7 +6,7 @@ ghost use Rattle.zarrs_chunk_tasks.specs.Few.{HasMany, HaveMany, most_to_choose,
 
 use std::alloc::{AllocError, Global};
 use zarrs_chunk_base::{ArraySubset, Refusal};
-use zarrs_chunk_parts::expect_answer;
+use zarrs_chunk_parts::found_or_out_of_memory;
 use zarrs_chunk_plan::moved_box;
 use zarrs_chunks::ChunkGridTraits;
 
@@ -106,7 +106,7 @@ fn has_few<G: ChunkGridTraits>(
     if elements.is_empty() {
         return Ok(true);
     }
-    let cover = expect_answer(grid.chunks_in_array_subset(alloc, elements))?;
+    let cover = found_or_out_of_memory(grid.chunks_in_array_subset(alloc, elements))?;
     Ok(are_at_most(cover.shape(), most))
 }
 

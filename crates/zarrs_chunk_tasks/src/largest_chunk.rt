@@ -12,7 +12,7 @@ ghost use Rattle.zarrs_chunk_tasks.specs.seen.LargestChunk.{IsLongestOf};
 use crate::groups_along::found;
 use std::alloc::{AllocError, Global};
 use zarrs_chunk_base::ArraySubset;
-use zarrs_chunk_parts::expect_answer;
+use zarrs_chunk_parts::found_or_out_of_memory;
 use zarrs_chunks::ChunkGridTraits;
 
 /// How many elements the largest chunk has, whole, of those that hold some of a box of elements, up to the greatest number. The box isn't empty and lies in
@@ -34,7 +34,7 @@ pub(crate) fn largest_chunk<G: ChunkGridTraits>(
         × (largest ≡ min greatest exact)) }
 {
     elements.is_a_box();
-    let cover = expect_answer(grid.chunks_in_array_subset(alloc, elements))?;
+    let cover = found_or_out_of_memory(grid.chunks_in_array_subset(alloc, elements))?;
     let first = cover.start();
     let many = cover.shape();
     let mut largest = 1u64;

@@ -4,7 +4,7 @@ use crate::task::Task;
 use std::alloc::{AllocError, Global};
 use std::num::NonZeroU64;
 use zarrs_chunk_base::{ArrayIndices, ArraySubset};
-use zarrs_chunk_parts::expect_answer;
+use zarrs_chunk_parts::found_or_out_of_memory;
 use zarrs_chunk_plan::{ChunkIter, Share, shifted_box};
 use zarrs_chunks::{ArrayIndicesTinyVec, ChunkGridTraits};
 
@@ -56,7 +56,7 @@ impl<'a, G: ChunkGridTraits> Tasks<'a, G> {
         ensures { IfOk result (ArePlanned G.dimensions grid.now (map non_zero_u64_get each.now)
             elements first.items at.items) }
     {
-        let cover = expect_answer(grid.chunks_in_array_subset(alloc, &elements))?;
+        let cover = found_or_out_of_memory(grid.chunks_in_array_subset(alloc, &elements))?;
         let groups = groups_over(alloc, grid, &elements, each, &cover)?;
         Ok(Tasks {
             alloc,

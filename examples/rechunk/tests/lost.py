@@ -247,7 +247,7 @@ def keys_of_page(chunkplan, generator, moves):
         told = subprocess.run([chunkplan], input=document.encode() + listed, capture_output=True, check=True).stdout
         lines = list(map(json.loads, told.splitlines()))
         yield "the lines", [to["key"] for line in lines for to in line.get("to", [])] == ["0.0", "3.0", "4.0"]
-        yield "the other files", sorted(line["foreign"] for line in lines if "to" not in line) == [".zarray", "3.0\r", "junk\0" "0.0"]
+        yield "the other files", sorted(line["unexpected"] for line in lines if "to" not in line) == [".zarray", "3.0\r", "junk\0" "0.0"]
 
 
 def file_names(chunkplan, generator, moves):
@@ -400,8 +400,8 @@ def hostile_texts(chunkplan, generator, moves):
         deep, stored = "[" * 10**5, (ends[0] / ".zarray").read_text()
         told = tool("copy_chunks.py", *ends, input=deep)
         yield "a line", told.returncode == 1 and "this is no line of a plan" in told.stderr and len(told.stderr.splitlines()) == 1
-        told = tool("copy_chunks.py", *ends, input='{"foreign":"a\x1b[2J\x85"}\n')
-        yield "a key", told.stderr.splitlines()[0].endswith(r"""a key that isn't its own: {"foreign":"a\x1b[2J\x85"}""")
+        told = tool("copy_chunks.py", *ends, input='{"unexpected":"a\x1b[2J\x85"}\n')
+        yield "a key", told.stderr.splitlines()[0].endswith(r"""a key that isn't its own: {"unexpected":"a\x1b[2J\x85"}""")
         for stream in (0, 1):
             told = tool("document_of.py", *ends, preexec_fn=lambda: os.close(stream))
             yield f"stream {stream}", (told.returncode, told.stderr) == (1, "document_of.py: standard input or standard output is closed\n")

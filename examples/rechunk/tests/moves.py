@@ -344,7 +344,7 @@ def broken_off(chunkplan, generator, moves):
                 words = ["--keys", "--share", task, of] if of > 1 else ["--keys"]
                 document = tool("document_of.py", *ends, *each, *words, check=True).stdout
                 lines = subprocess.run([chunkplan], input=document, stdout=subprocess.PIPE, check=True, text=True).stdout.splitlines(True)
-                yield f"broken off {count}: the other file", lines[-1] == json.dumps({"foreign": other}, ensure_ascii=False, separators=(",", ":")) + "\n"
+                yield f"broken off {count}: the other file", lines[-1] == json.dumps({"unexpected": other}, ensure_ascii=False, separators=(",", ":")) + "\n"
                 planned += lines[:-1]
             written = [{to["key"] for to in json.loads(line)["to"]} for line in planned]
             yield f"broken off {count}: what is missing", all(keys & lost for keys in written) and lost <= set().union(*written)

@@ -51,7 +51,7 @@ def read_box(folder, dtype, fill, shape, lines):
                     held, end = held + file.read(length), begin + length
         except FileNotFoundError:
             continue
-        elements[slices(*line["in_subset"])] = numpy.frombuffer(held, dtype).reshape(size, order=line["ranges"]["memory_order"])
+        elements[slices(*line["in_selection"])] = numpy.frombuffer(held, dtype).reshape(size, order=line["ranges"]["memory_order"])
         bytes_read += len(held)
     return elements, bytes_read
 

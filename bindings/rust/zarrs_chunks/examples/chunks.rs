@@ -38,7 +38,7 @@ fn main() -> Result<(), Box<dyn Error>> {
         let part = part?;
         println!(
             "{}: {:?} elements from {:?} on, which go to {:?}",
-            part.key, part.shape, part.in_chunk, part.in_subset
+            part.key, part.shape, part.in_chunk, part.in_selection
         );
     }
 

@@ -725,7 +725,7 @@ impl Grid {
     /// for part in grid.parts(&encoding, &subset)?.unwrap() {
     ///     let part = part?;
     ///     // Its elements begin at `part.in_chunk` of the chunk that is stored under `part.key`,
-    ///     // and at `part.in_subset` of the box.
+    ///     // and at `part.in_selection` of the box.
     ///     keys.push((part.key, part.shape));
     /// }
     /// assert_eq!(keys[0], ("c/0/0".to_owned(), vec![1, 1]));

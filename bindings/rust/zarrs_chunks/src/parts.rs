@@ -25,7 +25,7 @@ use crate::subset::ArraySubset;
 /// let subset = ArraySubset::new_with_start_shape(vec![3, 2], vec![3, 2])?;
 /// let part = grid.parts(&encoding, &subset)?.unwrap().nth(2).unwrap()?;
 /// assert_eq!((part.chunk, &part.key[..]), (vec![1, 0], "c/1/0"));
-/// assert_eq!((part.in_chunk, part.in_subset), (vec![0, 2], vec![1, 0]));
+/// assert_eq!((part.in_chunk, part.in_selection), (vec![0, 2], vec![1, 0]));
 /// assert_eq!(part.shape, [2, 1]);
 /// # Ok::<(), zarrs_chunks::Error>(())
 /// ```
@@ -39,7 +39,7 @@ pub struct Part {
     /// The part's first element, counted from that of the chunk.
     pub in_chunk: Vec<u64>,
     /// The part's first element, counted from that of the box.
-    pub in_subset: Vec<u64>,
+    pub in_selection: Vec<u64>,
     /// How many elements the part has along each dimension.
     pub shape: Vec<u64>,
 }
@@ -80,7 +80,7 @@ pub struct Parts<'a> {
 struct Page {
     chunks: Vec<u64>,
     in_chunk: Vec<u64>,
-    in_subset: Vec<u64>,
+    in_selection: Vec<u64>,
     shapes: Vec<u64>,
     keys: Keys,
 }
@@ -160,7 +160,7 @@ impl<'a> Parts<'a> {
             chunk: numbers(&self.page.chunks)?,
             key: text_of(key)?,
             in_chunk: numbers(&self.page.in_chunk)?,
-            in_subset: numbers(&self.page.in_subset)?,
+            in_selection: numbers(&self.page.in_selection)?,
             shape: numbers(&self.page.shapes)?,
         })
     }
@@ -222,14 +222,14 @@ fn read(
     };
     let dimensionality = grid.dimensionality();
     let list = || zeros(room.saturating_mul(dimensionality));
-    let (mut chunks, mut in_chunk, mut in_subset, mut shapes) =
+    let (mut chunks, mut in_chunk, mut in_selection, mut shapes) =
         (list()?, list()?, list()?, list()?);
     let mut offsets = zeros(room.saturating_add(1))?;
     let mut call = |text: &mut [u8]| {
         let buffers = PartBuffers {
             chunks: &mut chunks,
             in_chunk: &mut in_chunk,
-            in_subset: &mut in_subset,
+            in_selection: &mut in_selection,
             shapes: &mut shapes,
             text,
             offsets: &mut offsets,
@@ -246,5 +246,5 @@ fn read(
     text.truncate(told.needed);
     offsets.truncate(told.count.saturating_add(1));
     let keys = Keys::new(text, offsets)?;
-    Ok((told, Page { chunks, in_chunk, in_subset, shapes, keys }))
+    Ok((told, Page { chunks, in_chunk, in_selection, shapes, keys }))
 }

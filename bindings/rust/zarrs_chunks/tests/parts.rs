@@ -15,7 +15,7 @@ fn subset_of((start, shape): &(Vec<u64>, Vec<u64>)) -> ArraySubset {
 
 /// A part of arithmetic as the crate gives it, but for the key.
 fn lists(part: &Part) -> [Vec<u64>; 4] {
-    let lists = [&part.chunk, &part.in_chunk, &part.in_subset, &part.shape];
+    let lists = [&part.chunk, &part.in_chunk, &part.in_selection, &part.shape];
     lists.map(Clone::clone)
 }
 

@@ -12,8 +12,8 @@ pub use Rattle.programs.specs.chunkplan.Document.{choice_by, choice_in, choice_o
 pub use Rattle.programs.specs.chunkplan.Document.{into_box, into_chunks, line_order_in, lines_wanted, object_of, of_array, ranges_asked_of, ranges_by}
 pub use Rattle.programs.specs.chunkplan.Document.{of_region, ranges_in, read_of, rechunking_in, region_in, resize_to, selection_of}
 pub use Rattle.programs.specs.chunkplan.Document.{RegionWanted, target_stored_in, task_by, task_in, task_of, wanted_in, wanted_of}
-pub use Rattle.programs.specs.chunkplan.Keys.{AreForeign, AreKeys, AsStoreKey, HasKeysBehind, IsFirstNoText, IsKeyOfTarget, IsMissingText, IsThere, TellsDone}
-pub use Rattle.programs.specs.chunkplan.Keys.{behind, behind_first, closed_length, empty_line, first_line, foreign_json, foreign_lines, here}
+pub use Rattle.programs.specs.chunkplan.Keys.{AreUnexpected, AreKeys, AsStoreKey, HasKeysBehind, IsFirstNoText, IsKeyOfTarget, IsMissingText, IsThere, TellsDone}
+pub use Rattle.programs.specs.chunkplan.Keys.{behind, behind_first, closed_length, empty_line, first_line, unexpected_json, unexpected_lines, here}
 pub use Rattle.programs.specs.chunkplan.Keys.{key_line, no_line, unended}
 pub use Rattle.programs.specs.chunkplan.Line.{box_json, change_line, count_json, line_of, lines_from}
 pub use Rattle.programs.specs.chunkplan.Line.{numbers_items, numbers_json, overlap_json, part_json, items_of, task_json, task_line, task_lines, range_items, resize_lines}

@@ -2,12 +2,12 @@
 use Rattle.programs.proofs.chunkplan.Common.{◌≡◌, ◌≢◌, ◌↔◌, ◌⊎◌, ◌∙◌, ℕ, Bool, List, [], ◌∷◌, ◌++◌, Contains, IfOk, IfSome, IsTrue, OnOk, Option}
 use Rattle.programs.proofs.chunkplan.Common.{Result, Ok, Err, append-nil, append_assoc, ap, arith, inl, inr, length, refl, subst, sym, ⊎_elim}
 use Rattle.programs.proofs.chunkplan.Common.{Contains-append_cases, Contains-append_left, Contains-append_right, Contains-push, Contains-push_cases}
-use Rattle.programs.proofs.chunkplan.Common.{Dimension, IsOfArray, StoredChunks, Knows, AreForeign, AreKeys, IsFirstNoText, IsKeyOfTarget}
-use Rattle.programs.proofs.chunkplan.Common.{behind_first, empty_line, foreign_json, foreign_lines, key_line, no_line, unended, line_of}
+use Rattle.programs.proofs.chunkplan.Common.{Dimension, IsOfArray, StoredChunks, Knows, AreUnexpected, AreKeys, IsFirstNoText, IsKeyOfTarget}
+use Rattle.programs.proofs.chunkplan.Common.{behind_first, empty_line, unexpected_json, unexpected_lines, key_line, no_line, unended, line_of}
 use Rattle.programs.proofs.chunkplan.Common.{IsReadFailure, of_stream, RunFault, KeyNotText, Memory, StreamFault}
 use Rattle.std.specs.Str.{IsUtf8}
 use Rattle.zarrs_chunk_base.specs.StoreKey.{EndsInSlash}
-use Rattle.programs.specs.chunkplan.seen.Missing.{HaveMarked, HaveNoted, IsKeysStop, with_line}
+use Rattle.programs.specs.chunkplan.seen.Resume.{HaveMarked, HaveNoted, IsKeysStop, with_line}
 
 -- ---- the keys in some lines
 
@@ -48,24 +48,24 @@ no_more_lines bytes came have = rw append-nil at (have [] no_line)
 -- ---- keys that are none of the target's
 
 module _ (target : List Dimension) (IsKeyOf : List ℕ → List ℕ → Type 0) (key : List ℕ) where
-  own_key : (keys foreign : List (List ℕ)) → IsKeyOfTarget target IsKeyOf key → AreForeign target IsKeyOf keys foreign
-      → AreForeign target IsKeyOf (keys ++ key ∷ []) foreign
-  own_key [] foreign is are = inl (is, are)
-  own_key (first ∷ keys) foreign is (inl (own, are)) = inl (own, own_key keys foreign is are)
-  own_key (first ∷ keys) foreign is (inr (other, others, same, are)) = inr (other, others, same, own_key keys others is are)
+  own_key : (keys unexpected : List (List ℕ)) → IsKeyOfTarget target IsKeyOf key → AreUnexpected target IsKeyOf keys unexpected
+      → AreUnexpected target IsKeyOf (keys ++ key ∷ []) unexpected
+  own_key [] unexpected is are = inl (is, are)
+  own_key (first ∷ keys) unexpected is (inl (own, are)) = inl (own, own_key keys unexpected is are)
+  own_key (first ∷ keys) unexpected is (inr (other, others, same, are)) = inr (other, others, same, own_key keys others is are)
 
-  other_key : (keys foreign : List (List ℕ)) → (¬ IsKeyOfTarget target IsKeyOf key) → AreForeign target IsKeyOf keys foreign
-      → AreForeign target IsKeyOf (keys ++ key ∷ []) (foreign ++ key ∷ [])
-  other_key [] foreign is are = inr (is, [], ap (λ ks. ks ++ key ∷ []) are, refl)
-  other_key (first ∷ keys) foreign is (inl (own, are)) = inl (own, other_key keys foreign is are)
-  other_key (first ∷ keys) foreign is (inr (other, others, same, are)) =
+  other_key : (keys unexpected : List (List ℕ)) → (¬ IsKeyOfTarget target IsKeyOf key) → AreUnexpected target IsKeyOf keys unexpected
+      → AreUnexpected target IsKeyOf (keys ++ key ∷ []) (unexpected ++ key ∷ [])
+  other_key [] unexpected is are = inr (is, [], ap (λ ks. ks ++ key ∷ []) are, refl)
+  other_key (first ∷ keys) unexpected is (inl (own, are)) = inl (own, other_key keys unexpected is are)
+  other_key (first ∷ keys) unexpected is (inr (other, others, same, are)) =
       inr (other, others ++ key ∷ [], ap (λ ks. ks ++ key ∷ []) same, other_key keys others is are)
 
-  lines_of_both : (keys : List (List ℕ)) → foreign_lines (keys ++ key ∷ []) ≡ foreign_lines keys ++ line_of (foreign_json key)
-  lines_of_both [] = append-nil (line_of (foreign_json key))
+  lines_of_both : (keys : List (List ℕ)) → unexpected_lines (keys ++ key ∷ []) ≡ unexpected_lines keys ++ line_of (unexpected_json key)
+  lines_of_both [] = append-nil (line_of (unexpected_json key))
   lines_of_both (first ∷ keys) =
-      ap (λ text. line_of (foreign_json first) ++ text) (lines_of_both keys)
-      ∙ sym (append_assoc (line_of (foreign_json first)) (foreign_lines keys) (line_of (foreign_json key)))
+      ap (λ text. line_of (unexpected_json first) ++ text) (lines_of_both keys)
+      ∙ sym (append_assoc (line_of (unexpected_json first)) (unexpected_lines keys) (line_of (unexpected_json key)))
 
   module _ (targets keys : List (List ℕ)) where
     -- a key that ends in a slash marks nothing
@@ -118,19 +118,19 @@ module _ (target : List Dimension) (IsKeyOf : List ℕ → List ℕ → Type 0) 
       own_noted is = record {
         marked = marked;
         are_texts = are_texts;
-        foreign = noted.foreign;
-        are_foreign = own_key keys noted.foreign is noted.are_foreign;
+        unexpected = noted.unexpected;
+        are_unexpected = own_key keys noted.unexpected is noted.are_unexpected;
         text_is = noted.text_is;
       }
 
       pub other_noted : (¬ IsKeyOfTarget target IsKeyOf key)
-          → HaveNoted target IsKeyOf targets (keys ++ key ∷ []) after (text ++ line_of (foreign_json key))
+          → HaveNoted target IsKeyOf targets (keys ++ key ∷ []) after (text ++ line_of (unexpected_json key))
       other_noted is = record {
         marked = marked;
         are_texts = are_texts;
-        foreign = noted.foreign ++ key ∷ [];
-        are_foreign = other_key keys noted.foreign is noted.are_foreign;
-        text_is = ap (λ xs. xs ++ line_of (foreign_json key)) noted.text_is ∙ sym (lines_of_both noted.foreign);
+        unexpected = noted.unexpected ++ key ∷ [];
+        are_unexpected = other_key keys noted.unexpected is noted.are_unexpected;
+        text_is = ap (λ xs. xs ++ line_of (unexpected_json key)) noted.text_is ∙ sym (lines_of_both noted.unexpected);
       }
 
 -- whether a key is the target's, where it doesn't end in a slash, and where it does

@@ -1,7 +1,7 @@
 -- What a step leaves that reads before it sends.
 use Rattle.programs.proofs.chunkplan.Common.{◌≡◌, ◌⊎◌, ℕ, Bool, List, [], IsErrAnd, Option, Some, Result, Ok, Err, inl, inr, refl, ⊎_elim}
 use Rattle.programs.proofs.chunkplan.Common.{IsFirstNoText, then, Output, RunFault, KeyNotText, Memory, Read, Write}
-use Rattle.programs.specs.chunkplan.seen.Missing.{IsKeysStop}
+use Rattle.programs.specs.chunkplan.seen.Resume.{IsKeysStop}
 use Rattle.programs.specs.chunkplan.seen.Steps.{ReadLeaves, ReadStepLeaves, StepLeaves}
 use Rattle.programs.proofs.chunkplan.Exits.{handed}
 use Rattle.programs.proofs.chunkplan.RunOutcomes.{Still, none_of_reading, none_of_writing}

@@ -138,8 +138,8 @@ module _ (d left : Data)
   task_by_left : (target : Option Data) (resize : Option (List ℕ)) (r : Result Task RunFault) → task_by left target resize r
       → task_by d target resize r
   task_by_left target None r is = copying_left target r is
-  task_by_left target (Some shape) (Ok task) is = rw (kept (codes "keep") refl refl refl) at is
-  task_by_left target (Some shape) (Err fault) is = rw (kept (codes "keep") refl refl refl) at is
+  task_by_left target (Some shape) (Ok task) is = rw (kept (codes "include_unchanged") refl refl refl) at is
+  task_by_left target (Some shape) (Err fault) is = rw (kept (codes "include_unchanged") refl refl refl) at is
 
   task_left : (target : Option Data) → Moves (λ d. task_in d target)
   task_left target =

@@ -228,7 +228,7 @@ module _ (buffer : List ℕ) (at all : Option ℕ) where
 pub part_tokens : (at of : Option ℕ) (wanted : Option RangesWanted) (part : Part) → json_tokens (part_json at of wanted part)
     ≡ begin_object ∷ key (codes "chunk") ∷ (json_tokens (numbers_json part.chunk.items)
     ++ key (codes "in_chunk") ∷ (json_tokens (box_json part.in_chunk)
-    ++ key (codes "in_subset") ∷ (json_tokens (box_json part.in_subset)
+    ++ key (codes "in_selection") ∷ (json_tokens (box_json part.in_selection)
     ++ key (codes "key") ∷ string part.key ∷ key (codes "number") ∷ (json_tokens (count_json at)
     ++ key (codes "of") ∷ (json_tokens (count_json of)
     ++ (ranges_tokens wanted part ++ key (codes "shape") ∷ (json_tokens (numbers_json part.shape.items)
@@ -239,7 +239,7 @@ part_tokens at of (Some wanted) part = refl
 -- the tokens of an overlap
 pub overlap_tokens : (written : Bool) (part : Part) → json_tokens (overlap_json written part)
     ≡ begin_object ∷ key (codes "chunk") ∷ (json_tokens (numbers_json part.chunk.items)
-    ++ key (codes "in_buffer") ∷ (json_tokens (box_json part.in_subset)
+    ++ key (codes "in_buffer") ∷ (json_tokens (box_json part.in_selection)
     ++ key (codes "in_chunk") ∷ (json_tokens (box_json part.in_chunk)
     ++ key (codes "key") ∷ string part.key ∷ key (codes "shape") ∷ (json_tokens (numbers_json part.shape.items)
     ++ (whole_if_tokens written part ++ end_object ∷ [])))))

@@ -145,7 +145,7 @@ text_still document source (read_of subset clip ranges) = still _ (λ never. nev
 text_still document source (copy_to stored copying) =
     then_still (target_in stored (target_shape copying.selection document.shape)) (copy_text copying document.wanted source)
     (target_still stored (target_shape copying.selection document.shape)) (copy_still copying document.wanted source)
-text_still document source (resize_to shape keep) = still _ (λ never. never) (λ never. never)
+text_still document source (resize_to shape include_unchanged) = still _ (λ never. never) (λ never. never)
 
 unless_still : (keys : Bool) (document : Document) → Still (λ fault. text_unless keys document (Err fault))
 unless_still false document =
@@ -172,7 +172,7 @@ beside_still document bytes (lines_wanted share) (copy_to stored copying) source
     (target_still stored (target_shape copying.selection document.shape))
     (copy_beside_still copying share bytes source)
 beside_still document bytes (lines_wanted share) (read_of subset clip ranges) source = λ fault none. absurd none
-beside_still document bytes (lines_wanted share) (resize_to shape keep) source = λ fault none. absurd none
+beside_still document bytes (lines_wanted share) (resize_to shape include_unchanged) source = λ fault none. absurd none
 beside_still document bytes counts_wanted task source = λ fault none. absurd none
 
 pub plan_still : (input : List ℕ) → Still (λ fault. IsPlanOf input (Err fault))

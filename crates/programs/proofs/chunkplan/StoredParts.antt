@@ -2,7 +2,7 @@
 use Rattle.programs.proofs.chunkplan.Common.{◌≡◌, ◌↔◌, ◌∙◌, ◌&&◌, ℕ, Bool, true, false, IsTrue, List, [], ◌∷◌, ◌++◌, AllZip, ap, ap₂, arith, refl, sym}
 use Rattle.programs.proofs.chunkplan.Common.{true≢false, Box, Dimension, IsPart, Part, StoredChunks}
 use Rattle.zarrs_chunk_plan.specs.seen.StoredChunks.{has_mark}
-use Rattle.programs.specs.chunkplan.seen.Missing.{are_stored, is_stored_whole}
+use Rattle.programs.specs.chunkplan.seen.Resume.{are_stored, is_stored_whole}
 
 pub both_true : (one other : Bool) → IsTrue (one && other) ↔ (IsTrue one × IsTrue other)
 both_true one other = grind arith

@@ -13,7 +13,7 @@ use Rattle.zarrs_chunk_tasks.proofs.TaskPlans.{inside_by_source, inside_by_targe
 use Rattle.programs.specs.chunkplan.Planned.{Array, beside_by, copy_beside, source_in, target_in, target_shape, text_beside}
 use Rattle.programs.specs.chunkplan.Stages.{AreStagePlans}
 use Rattle.zarrs_chunk_tasks.specs.Tasks.{AreTasksBy}
-use Rattle.programs.specs.chunkplan.seen.Missing.{HaveMarked, HaveNoted, are_stored, is_stored_whole, share_unless_stored}
+use Rattle.programs.specs.chunkplan.seen.Resume.{HaveMarked, HaveNoted, are_stored, is_stored_whole, share_unless_stored}
 use Rattle.programs.specs.chunkplan.seen.Opened.{dimensions_of, key_of}
 use Rattle.programs.specs.chunkplan.seen.PlannedTasks.{HasPartsOf}
 use Rattle.programs.specs.chunkplan.seen.Routes.{stage_of}
@@ -30,8 +30,8 @@ pub none_noted : (target : List Dimension) (IsKeyOf : List ℕ → List ℕ → 
 none_noted target IsKeyOf targets stored text knows none = record {
   marked = record { store_keys = []; are_store_keys = λ key. (λ is. absurd (omega (arith, is.1)), λ is. is.0); knows = knows };
   are_texts = λ key is. absurd (omega (arith, is.1));
-  foreign = [];
-  are_foreign = refl;
+  unexpected = [];
+  are_unexpected = refl;
   text_is = none;
 }
 
@@ -125,17 +125,17 @@ module _ (stage : StageValue) (cover : Box) (covers : Covers (dimensions_of stag
           each others have.1 (λ task (k, within, is). among task (suc k, omega arith, is)),
         )
 
-    pub still_missing : (foreign : List ℕ) (noted : HaveNoted (dimensions_of stage.target.now) (key_of stage.target.now) (chunks_in cover) keys stored foreign)
-        (share : Share) → IsMissingText (stage_of stage) keys share plans (share_unless_stored (Some stored) share plans ++ foreign)
-    still_missing foreign noted share = record {
+    pub still_missing : (unexpected : List ℕ) (noted : HaveNoted (dimensions_of stage.target.now) (key_of stage.target.now) (chunks_in cover) keys stored unexpected)
+        (share : Share) → IsMissingText (stage_of stage) keys share plans (share_unless_stored (Some stored) share plans ++ unexpected)
+    still_missing unexpected noted share = record {
       count = length (chunks_in cover);
       writes = (cover, covers, refl);
       few = few;
       are_texts = noted.are_texts;
       is_done = λ (plan : TaskPlan). are_stored stored plan.1.1;
       tells = tells noted.marked;
-      foreign = noted.foreign;
-      are_foreign = noted.are_foreign;
+      unexpected = noted.unexpected;
+      are_unexpected = noted.are_unexpected;
       text_is = ap (λ text. share_unless_stored (Some stored) share plans ++ text) noted.text_is;
     }
 

@@ -2,7 +2,7 @@
 -- `clip`, if they are wanted, and `item_size`, if byte ranges are, with `memory_order` and `max_ranges`; for a rechunking, `target`, and `chunks`, if it
 -- is wanted; for the copy of a region, `target` and `subset`, and `at` if it is wanted. `task_chunks` and `order` say of which tasks a copy is made, or
 -- `max_elements`, `read_elements` and `stage` do. `share` or `counts` says what is wanted of the plan, if not all lines; beside a target, `keys` that
--- keys of its store stand behind the document. For a resize it has `resize`, and `keep` if it is wanted, and none of these. What else an array's
+-- keys of its store stand behind the document. For a resize it has `resize`, and `include_unchanged` if it is wanted, and none of these. What else an array's
 -- `zarr.json` has may stand in it and in the target.
 use Rattle.std.specs.Prelude.{◌≡◌, ◌^◌, ◌≤◌}
 use Rattle.programs.specs.chunkplan.Common.{ℕ, Bool, true, false, cond, IsSome, IsTrue, List, Option, Some, None, Result, Ok, Err, bytes_eq, codes}
@@ -66,7 +66,7 @@ pub record Copying : Type 0 where
 pub data Task : Type 0 where
   read_of : Option Box → (clip : Bool) → Option RangesWanted → Task
   copy_to : Stored → Copying → Task
-  resize_to : (shape : List ℕ) → (keep : Bool) → Task
+  resize_to : (shape : List ℕ) → (include_unchanged : Bool) → Task
 
 -- what is wanted of the plan: the lines of a share, or its counts
 pub data Wanted : Type 0 where
@@ -103,7 +103,7 @@ copying_of copying = record { choice = choice_of copying.choice; selection = sel
 abbrev pub task_of : TaskValue → Task
 task_of (task.Read subset clip ranges) = read_of subset clip (option_map ranges_asked_of ranges)
 task_of (task.Copy target copied) = copy_to (stored_of target) (copying_of copied)
-task_of (task.Resize shape keep) = resize_to shape.items keep
+task_of (task.Resize shape include_unchanged) = resize_to shape.items include_unchanged
 
 abbrev pub wanted_of : WantedValue → Wanted
 wanted_of (LinesValue share) = lines_wanted share
@@ -290,7 +290,7 @@ copying_in d (Some target) =
 
 -- a resize, where there is `resize`, the array's new shape; and else what is copied
 abbrev pub task_by : Data → (target : Option Data) → (resize : Option (List ℕ)) → Result Task RunFault → Type 0
-task_by d target (Some shape) = then (told of_document (flag_in (codes "keep") d)) (λ keep. gives (resize_to shape keep))
+task_by d target (Some shape) = then (told of_document (flag_in (codes "include_unchanged") d)) (λ include_unchanged. gives (resize_to shape include_unchanged))
 task_by d target None = copying_in d target
 
 abbrev pub task_in : Data → (target : Option Data) → Result Task RunFault → Type 0

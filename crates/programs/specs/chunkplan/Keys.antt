@@ -77,19 +77,19 @@ abbrev pub IsKeyOfTarget : (target : List Dimension) → (List ℕ → List ℕ 
 IsKeyOfTarget target IsKeyOf = IsOfArray target (AsStoreKey IsKeyOf)
 
 -- of the keys those that are none of the target's, in order
-abbrev pub AreForeign : (target : List Dimension) → (List ℕ → List ℕ → Type 0) → (keys foreign : List (List ℕ)) → Type 0
-AreForeign target IsKeyOf [] foreign = foreign ≡ []
-AreForeign target IsKeyOf (key ∷ keys) foreign =
-    (IsKeyOfTarget target IsKeyOf key × AreForeign target IsKeyOf keys foreign)
+abbrev pub AreUnexpected : (target : List Dimension) → (List ℕ → List ℕ → Type 0) → (keys unexpected : List (List ℕ)) → Type 0
+AreUnexpected target IsKeyOf [] unexpected = unexpected ≡ []
+AreUnexpected target IsKeyOf (key ∷ keys) unexpected =
+    (IsKeyOfTarget target IsKeyOf key × AreUnexpected target IsKeyOf keys unexpected)
     ⊎ ((¬ IsKeyOfTarget target IsKeyOf key)
-    × (others : List (List ℕ)) × (foreign ≡ key ∷ others) × AreForeign target IsKeyOf keys others)
+    × (others : List (List ℕ)) × (unexpected ≡ key ∷ others) × AreUnexpected target IsKeyOf keys others)
 
-abbrev pub foreign_json : List ℕ → Json
-foreign_json key = object (member (codes "foreign") (string key) no_members)
+abbrev pub unexpected_json : List ℕ → Json
+unexpected_json key = object (member (codes "unexpected") (string key) no_members)
 
-abbrev pub foreign_lines : List (List ℕ) → List ℕ
-foreign_lines [] = []
-foreign_lines (key ∷ keys) = line_of (foreign_json key) ++ foreign_lines keys
+abbrev pub unexpected_lines : List (List ℕ) → List ℕ
+unexpected_lines [] = []
+unexpected_lines (key ∷ keys) = line_of (unexpected_json key) ++ unexpected_lines keys
 
 -- ---- both
 
@@ -98,7 +98,7 @@ abbrev pub WritesChunks : Stage → (count : ℕ) → Type 0
 WritesChunks stage count = (cover : Box) × Covers (target_dimensions stage) (moved stage.at stage.region) cover × (count ≡ length (chunks_in cover))
 
 -- The store of a stage's target has these keys. What is written of a share of the stage are the lines of the tasks that aren't done, and after them the
--- foreign keys. The stage writes fewer than 2 ^ 29 chunks, and each key is a text.
+-- unexpected keys. The stage writes fewer than 2 ^ 29 chunks, and each key is a text.
 pub record IsMissingText (stage : Stage) (keys : List (List ℕ)) (share : Share) (plans : List TaskPlan) (text : List ℕ) : Type 0 where
   pub count : ℕ
   pub writes : WritesChunks stage count
@@ -106,9 +106,9 @@ pub record IsMissingText (stage : Stage) (keys : List (List ℕ)) (share : Share
   pub are_texts : (key : List ℕ) → Contains keys key → IsUtf8 key
   pub is_done : TaskPlan → Bool
   pub tells : TellsDone (IsKey stage.target.1) keys plans is_done
-  pub foreign : List (List ℕ)
-  pub are_foreign : AreForeign (target_dimensions stage) (IsKey stage.target.1) keys foreign
-  pub text_is : text ≡ missing_lines is_done share plans ++ foreign_lines foreign
+  pub unexpected : List (List ℕ)
+  pub are_unexpected : AreUnexpected (target_dimensions stage) (IsKey stage.target.1) keys unexpected
+  pub text_is : text ≡ missing_lines is_done share plans ++ unexpected_lines unexpected
 
 -- The first line that is no text has this number, if the lines are counted from a first number on.
 pub data IsFirstNoText : (first : ℕ) (bytes : List ℕ) (number : ℕ) → Type 0 where

@@ -1,5 +1,5 @@
 -- The members that a document may have, and those in which source and target have to agree.
--- Source: Zarr V3 core, array metadata; `at`, `chunks`, `clip`, `counts`, `item_size`, `keep`, `keys`, `max_elements`, `max_ranges`,
+-- Source: Zarr V3 core, array metadata; `at`, `chunks`, `clip`, `counts`, `include_unchanged`, `item_size`, `keys`, `max_elements`, `max_ranges`,
 -- `memory_order`, `order`, `read_elements`, `resize`, `share`, `stage`, `subset`, `target` and `task_chunks` are this program's own.
 use Rattle.std.specs.Prelude.{◌≡◌, ◌≢◌, ◌≤◌, ◌∷◌, ◌++◌}
 use Rattle.programs.specs.chunkplan.Common.{ℕ, List, [], Some, codes, false, string_bytes, Data, depth, as_object, get, UnknownMember}
@@ -18,7 +18,7 @@ zarr_json_members =
 abbrev pub known_members : List (List ℕ)
 known_members =
     zarr_json_members
-    ++ codes "at" ∷ codes "chunks" ∷ codes "clip" ∷ codes "counts" ∷ codes "item_size" ∷ codes "keep" ∷ codes "keys"
+    ++ codes "at" ∷ codes "chunks" ∷ codes "clip" ∷ codes "counts" ∷ codes "include_unchanged" ∷ codes "item_size" ∷ codes "keys"
     ∷ codes "max_elements" ∷ codes "max_ranges" ∷ codes "memory_order" ∷ codes "order" ∷ codes "read_elements" ∷ codes "resize"
     ∷ codes "share" ∷ codes "stage" ∷ codes "subset" ∷ codes "target" ∷ codes "task_chunks" ∷ []
 

@@ -8,8 +8,8 @@ use Rattle.json.specs.Json.{boolean}
 use Rattle.zarrs_chunk_plan.specs.Bytes.{begins}
 use Rattle.zarrs_chunk_plan.specs.Strided.{Strided, ranges_of}
 use Rattle.zarrs_chunk_plan.specs.declared.resize.plan.Change.{Change}
-use Rattle.zarrs_chunk_plan.specs.declared.resize.plan.Change.TheVariants.{Delete, Keep, New, Rewrite}
-use Rattle.zarrs_chunk_plan.specs.declared.resize.plan.Held.{Held}
+use Rattle.zarrs_chunk_plan.specs.declared.resize.plan.Change.TheVariants.{Create, Delete, Keep, Rewrite}
+use Rattle.zarrs_chunk_plan.specs.declared.resize.plan.ChunkContents.{ChunkContents}
 use Rattle.programs.specs.chunkplan.Document.{RangesWanted}
 use Rattle.streams.specs.OneLine.{line_of as one_line}
 
@@ -77,7 +77,7 @@ abbrev pub part_json : (at of : Option ℕ) → Option RangesWanted → Part →
 part_json at of wanted part =
     object (member (codes "chunk") (numbers_json part.chunk.items)
     (member (codes "in_chunk") (box_json part.in_chunk)
-    (member (codes "in_subset") (box_json part.in_subset)
+    (member (codes "in_selection") (box_json part.in_selection)
     (member (codes "key") (string part.key)
     (member (codes "number") (count_json at)
     (member (codes "of") (count_json of)
@@ -107,7 +107,7 @@ items_of json (part ∷ parts) = item (json part) (items_of json parts)
 abbrev pub overlap_json : (written : Bool) → Part → Json
 overlap_json written part =
     object (member (codes "chunk") (numbers_json part.chunk.items)
-    (member (codes "in_buffer") (box_json part.in_subset)
+    (member (codes "in_buffer") (box_json part.in_selection)
     (member (codes "in_chunk") (box_json part.in_chunk)
     (member (codes "key") (string part.key)
     (member (codes "shape") (numbers_json part.shape.items) (whole_if written part))))))
@@ -132,11 +132,11 @@ task_lines share plans =
 -- ---- a resize
 
 -- what a chunk holds of the array, as a box of it, and the chunk's shape; null, where that is nothing
-abbrev pub held_json : Option Held → Json
+abbrev pub held_json : Option ChunkContents → Json
 held_json (Some held) = box_json held.elements
 held_json None = null
 
-abbrev pub held_shape_json : Option Held → Json
+abbrev pub held_shape_json : Option ChunkContents → Json
 held_shape_json (Some held) = numbers_json held.shape.items
 held_shape_json None = null
 
@@ -145,7 +145,7 @@ abbrev pub change_word : Change → List ℕ
 change_word Keep = codes "keep"
 change_word Rewrite = codes "rewrite"
 change_word Delete = codes "delete"
-change_word New = codes "new"
+change_word Create = codes "create"
 
 -- the change of a chunk: its numbers, its key, what it is to hold, which line of how many it is, what it held, and what becomes of it
 abbrev pub change_json : (at of : Option ℕ) → ChunkChange → Json

@@ -22,7 +22,7 @@ rules =
     (codes "target" ∷ codes "subset" ∷ codes "clip" ∷ codes "chunks" ∷ codes "at" ∷ codes "share" ∷ codes "counts" ∷ codes "keys" ∷ codes "order"
     ∷ codes "item_size" ∷ codes "memory_order" ∷ codes "max_ranges" ∷ codes "task_chunks" ∷ codes "max_elements"
     ∷ codes "read_elements" ∷ codes "stage" ∷ [])
-    ++ needs (codes "keep") (codes "resize")
+    ++ needs (codes "include_unchanged") (codes "resize")
     ∷ needs (codes "chunks") (codes "target")
     ∷ needs (codes "at") (codes "target")
     ∷ excludes (codes "clip") (codes "target")

@@ -136,9 +136,9 @@ resized_in stored shape (Err (ResizedGrid error)) = IsGridFault stored.chunk_gri
 resized_in stored shape (Err _) = ⊥
 
 -- what is written of the resize to a grid
-abbrev pub IsResizeText : (keep : Bool) → Array → (after : Grid) → List ℕ → Type 0
-IsResizeText keep array after text = (changes : List ChunkChange)
-    × IsResizePlan array.0.dimensions after.dimensions (IsKey array.1) keep changes × (text ≡ resize_lines changes)
+abbrev pub IsResizeText : (include_unchanged : Bool) → Array → (after : Grid) → List ℕ → Type 0
+IsResizeText include_unchanged array after text = (changes : List ChunkChange)
+    × IsResizePlan array.0.dimensions after.dimensions (IsKey array.1) include_unchanged changes × (text ≡ resize_lines changes)
 
 -- ---- a document
 
@@ -149,7 +149,7 @@ text_by document source (read_of subset clip ranges) =
     read_text document.wanted clip ranges source (unwrap_or subset (array_box source.0.dimensions))
 text_by document source (copy_to stored copying) =
     then (target_in stored (target_shape copying.selection document.shape)) (copy_text copying document.wanted source)
-text_by document source (resize_to shape keep) = made_of (resized_in document.stored shape) (IsResizeText keep source)
+text_by document source (resize_to shape include_unchanged) = made_of (resized_in document.stored shape) (IsResizeText include_unchanged source)
 
 abbrev pub text_of : Document → Result (List ℕ) RunFault → Type 0
 text_of document = then (source_in document) (λ source. text_by document source document.task)

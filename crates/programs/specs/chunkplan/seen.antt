@@ -1,6 +1,6 @@
 pub mod Added
 pub mod Digits
-pub mod Missing
+pub mod Resume
 pub mod Opened
 pub mod Pieces
 pub mod PlannedTasks

@@ -41,7 +41,7 @@ pub(crate) fn write_parts<W: Write>(
     let mut number = first;
     for part in walk {
         send_text(part_text(alloc, &part?, number, form), sink)?;
-        number = following(number);
+        number = next_number(number);
     }
     Ok(())
 }
@@ -72,7 +72,7 @@ pub(crate) fn write_changes<W: Write>(
     let mut number = Some(0);
     for change in walk {
         send_text(change_line(alloc, &change?, number, of), sink)?;
-        number = following(number);
+        number = next_number(number);
     }
     Ok(())
 }
@@ -93,7 +93,7 @@ pub(crate) fn send_text<W: Write>(
 }
 
 /// The number after this one.
-pub(crate) fn following(number: Option<u64>) -> Option<u64>
+pub(crate) fn next_number(number: Option<u64>) -> Option<u64>
     ensures { (n : ℕ) → number ≡ counted n → result ≡ counted (suc n) }
 {
     match number {

@@ -33,7 +33,7 @@ pub(crate) enum Task {
     /// A resize to this shape, and whether the chunks are wanted too that stay as they are stored.
     Resize {
         shape: Vec<u64>,
-        keep: bool,
+        include_unchanged: bool,
     },
 }
 
@@ -90,7 +90,7 @@ pub(crate) struct Document {
 ///
 /// # Errors
 /// The first that applies: the input is no JSON, or no object; a member isn't known; one is missing; one doesn't go with the others; one isn't of its
-/// form, of `shape`, `counts`, `share`, `keys`, `chunk_grid`, `chunk_key_encoding`, and of `resize` and `keep`, of `subset`, `clip` and byte ranges,
+/// form, of `shape`, `counts`, `share`, `keys`, `chunk_grid`, `chunk_key_encoding`, and of `resize` and `include_unchanged`, of `subset`, `clip` and byte ranges,
 /// of `target`, the tasks and `chunks`, or of `target`, `subset`, `at` and the tasks; before its own members, the target has one that
 /// isn't known, or is of another array, or for a region of another data type. Or out of memory.
 pub(crate) fn parse(alloc: Global, input: &[u8]) -> Result<Document, RunFault>
@@ -195,8 +195,11 @@ fn task_from(alloc: Global, tree: &Value, target: Option<Value>) -> Result<Task,
 {
     match member_numbers(alloc, tree, "resize")? {
         Some(shape) => {
-            let keep = member_flag(tree, "keep")?;
-            Ok(Task::Resize { shape, keep })
+            let include_unchanged = member_flag(tree, "include_unchanged")?;
+            Ok(Task::Resize {
+                shape,
+                include_unchanged,
+            })
         }
         None => copying_from(alloc, tree, target),
     }

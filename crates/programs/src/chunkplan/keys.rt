@@ -4,11 +4,11 @@ ghost use Rattle.programs.specs.chunkplan.Common.{[], length, ℕ, IfErr, IfOk, 
 ghost use Rattle.programs.specs.chunkplan.Common.{KeyNotText, Memory, left};
 ghost use Rattle.std.specs.Io.BufRead.{take_through};
 ghost use Rattle.programs.specs.chunkplan.Keys.{AreKeys, HasKeysBehind, IsKeyOfTarget, braces_after, closed_length, closed_lines, unended};
-ghost use Rattle.programs.specs.chunkplan.seen.Missing.{HaveMarked, HaveNoted, IsKeysStop, with_line};
+ghost use Rattle.programs.specs.chunkplan.seen.Resume.{HaveMarked, HaveNoted, IsKeysStop, with_line};
 ghost use Rattle.programs.specs.chunkplan.seen.Opened.{dimensions_of, key_of};
 
 use crate::chunkplan::RunFault;
-use crate::chunkplan::line::foreign_line;
+use crate::chunkplan::line::unexpected_line;
 use crate::chunkplan::opened::OpenedArray;
 use std::alloc::{AllocError, Global};
 use std::io::Read;
@@ -79,17 +79,17 @@ pub(crate) fn note_keys<R: Read>(
     alloc: Global,
     target: &OpenedArray,
     stored: &mut StoredChunks,
-    foreign: &mut Vec<u8>,
+    unexpected: &mut Vec<u8>,
     lines: &mut Lines,
     reader: &mut Watched<R>,
 ) -> Result<(), RunFault>
     ensures noted { OnOk result ((bytes : List ℕ) (targets : List (List ℕ))
         → left lines.old (R.remaining (watched reader.old)) ≡ Some bytes
         → HaveNoted (dimensions_of target.now) (key_of target.now) targets []
-        stored.old foreign.old.items
+        stored.old unexpected.old.items
         → (keys : List (List ℕ)) × AreKeys bytes keys
         × HaveNoted (dimensions_of target.now) (key_of target.now) targets keys
-        stored.new foreign.new.items) }
+        stored.new unexpected.new.items) }
     ensures end { OnOk result (IfSome (left lines.old (R.remaining (watched reader.old)))
         (λ _. R.remaining (watched reader.new) ≡ Some [])) }
     ensures refused { IfErr result (λ fault. IsKeysStop fault
@@ -101,7 +101,14 @@ pub(crate) fn note_keys<R: Read>(
     // The document is line 1.
     for number in 2..u64::MAX {
         let ended = lines.read_line(reader, &mut line)?;
-        note_line(alloc, target, stored, foreign, without_feed(&line), number)?;
+        note_line(
+            alloc,
+            target,
+            stored,
+            unexpected,
+            without_feed(&line),
+            number,
+        )?;
         if !ended {
             return Ok(());
         }
@@ -119,16 +126,16 @@ fn note_line(
     alloc: Global,
     target: &OpenedArray,
     stored: &mut StoredChunks,
-    foreign: &mut Vec<u8>,
+    unexpected: &mut Vec<u8>,
     line: &[u8],
     number: u64,
 ) -> Result<(), RunFault>
     ensures text { OnOk result (IsUtf8 line.now) }
     ensures noted { OnOk result ((targets keys : List (List ℕ))
         → HaveNoted (dimensions_of target.now) (key_of target.now) targets keys
-        stored.old foreign.old.items
+        stored.old unexpected.old.items
         → HaveNoted (dimensions_of target.now) (key_of target.now) targets
-        (with_line keys line.now) stored.new foreign.new.items) }
+        (with_line keys line.now) stored.new unexpected.new.items) }
     ensures refused { IfErr result (λ fault. (fault ≡ Memory)
         ⊎ ((fault ≡ KeyNotText number) × (¬ IsUtf8 line.now))) }
 {
@@ -141,8 +148,8 @@ fn note_line(
     if note_key(alloc, target, stored, key)? {
         return Ok(());
     }
-    let line = foreign_line(alloc, key)?;
-    foreign.extend_from_slice(&line)?;
+    let line = unexpected_line(alloc, key)?;
+    unexpected.extend_from_slice(&line)?;
     Ok(())
 }
 

@@ -3,7 +3,7 @@ ghost use Rattle.std.specs.Prelude.{◌≡◌, ◌++◌, ◌∷◌};
 ghost use Rattle.programs.specs.chunkplan.Common.{[], codes, option_map, IfOk, OnOk, print, boolean, key, json_tokens};
 ghost use Rattle.json.specs.Token.{null, string};
 ghost use Rattle.programs.specs.chunkplan.Document.{ranges_asked_of};
-ghost use Rattle.programs.specs.chunkplan.Keys.{foreign_json};
+ghost use Rattle.programs.specs.chunkplan.Keys.{unexpected_json};
 ghost use Rattle.programs.specs.chunkplan.Line.{box_json, change_line, change_word, count_json, held_json, held_shape_json, line_of, numbers_json};
 ghost use Rattle.programs.specs.chunkplan.Line.{overlap_json, part_json};
 ghost use Rattle.programs.specs.chunkplan.seen.Added.{Adds};
@@ -17,7 +17,7 @@ use json::{Token, Writer};
 use std::alloc::{AllocError, Global};
 use streams::{one_line, unbroken};
 use zarrs_chunk_base::{ArraySubset, StoreKey};
-use zarrs_chunk_plan::{Change, ChunkChange, Held, Part};
+use zarrs_chunk_plan::{Change, ChunkChange, ChunkContents, Part};
 
 /// How many bytes a line is given room for at first.
 const LINE_LEN: usize = 192;
@@ -64,7 +64,7 @@ fn part_line(
     json.begin_object()?;
     write_numbers(&mut json, "chunk", part.chunk.as_slice())?;
     write_box(&mut json, "in_chunk", &part.in_chunk)?;
-    write_box(&mut json, "in_subset", &part.in_subset)?;
+    write_box(&mut json, "in_selection", &part.in_selection)?;
     write_key(&mut json, &part.key)?;
     write_count(&mut json, "number", number)?;
     write_count(&mut json, "of", of)?;
@@ -104,7 +104,7 @@ fn overlap_text(
     let mut json = Writer::new(begin_item(alloc, number)?);
     json.begin_object()?;
     write_numbers(&mut json, "chunk", part.chunk.as_slice())?;
-    write_box(&mut json, "in_buffer", &part.in_subset)?;
+    write_box(&mut json, "in_buffer", &part.in_selection)?;
     write_box(&mut json, "in_chunk", &part.in_chunk)?;
     write_key(&mut json, &part.key)?;
     write_numbers(&mut json, "shape", part.shape.as_slice())?;
@@ -213,19 +213,19 @@ pub(crate) fn change_line(
 ///
 /// # Errors
 /// Out of memory.
-pub(crate) fn foreign_line(alloc: Global, key: &str) -> Result<Vec<u8>, AllocError>
-    ensures { IfOk result (λ line. line.items ≡ line_of (foreign_json key.now)) }
+pub(crate) fn unexpected_line(alloc: Global, key: &str) -> Result<Vec<u8>, AllocError>
+    ensures { IfOk result (λ line. line.items ≡ line_of (unexpected_json key.now)) }
 {
     let mut json = Writer::new(Vec::with_capacity(alloc, LINE_LEN)?);
     json.begin_object()?;
-    json.key("foreign")?;
+    json.key("unexpected")?;
     json.string(key)?;
     json.end_object()?;
     ended(alloc, json)
 }
 
 /// Writes a member of this name: what a chunk holds of its array, as a box of it, or `null` where that is nothing.
-fn write_held(json: &mut Writer, name: &str, held: &Option<Held>) -> Result<(), AllocError>
+fn write_held(json: &mut Writer, name: &str, held: &Option<ChunkContents>) -> Result<(), AllocError>
     ensures { OnOk result (Adds json.old json.new (key name.now
         ∷ json_tokens (held_json held.now))) }
 {
@@ -236,7 +236,11 @@ fn write_held(json: &mut Writer, name: &str, held: &Option<Held>) -> Result<(), 
 }
 
 /// Writes a member of this name: the shape of a chunk that holds something, or `null` where it holds nothing.
-fn write_held_shape(json: &mut Writer, name: &str, held: &Option<Held>) -> Result<(), AllocError>
+fn write_held_shape(
+    json: &mut Writer,
+    name: &str,
+    held: &Option<ChunkContents>,
+) -> Result<(), AllocError>
     ensures { OnOk result (Adds json.old json.new (key name.now
         ∷ json_tokens (held_shape_json held.now))) }
 {
@@ -272,7 +276,7 @@ fn word_of(what: Change) -> &'static str
         Change::Keep => "keep",
         Change::Rewrite => "rewrite",
         Change::Delete => "delete",
-        Change::New => "new",
+        Change::Create => "create",
     }
 }
 

@@ -39,7 +39,7 @@ const RULES: [MemberRule; 37] = [
     Excludes("resize", "max_elements"),
     Excludes("resize", "read_elements"),
     Excludes("resize", "stage"),
-    Needs("keep", "resize"),
+    Needs("include_unchanged", "resize"),
     Needs("chunks", "target"),
     Needs("at", "target"),
     Excludes("clip", "target"),

@@ -65,9 +65,12 @@ pub(crate) fn write_plan<W: Write>(
             let target = open_target(alloc, target, target_shape(&copying.selection, &shape))?;
             write_copy(alloc, &array, &target, copying, &wanted, sink)
         }
-        Task::Resize { shape, keep } => {
+        Task::Resize {
+            shape,
+            include_unchanged,
+        } => {
             let after = resized_grid(alloc, stored, &shape)?;
-            write_resize(alloc, &array, &after, keep, sink)
+            write_resize(alloc, &array, &after, include_unchanged, sink)
         }
     }
 }
@@ -289,17 +292,23 @@ fn write_resize<W: Write>(
     alloc: Global,
     array: &OpenedArray,
     after: &ChunkGrid,
-    keep: bool,
+    include_unchanged: bool,
     sink: &mut Sink<W>,
 ) -> Result<(), RunFault>
     requires resized { AreResized (dimensions_of array.now) (dimensions_in after.now) }
-    ensures { StepLeaves (IsResizeText keep (array_in array.now) (grid_in after.now))
+    ensures { StepLeaves (IsResizeText include_unchanged (array_in array.now) (grid_in after.now))
         (λ _. ⊥) result
         (written W.contents sink.old) (written W.contents sink.new) }
 {
     all_fit(array.grid.array_shape());
     all_fit(after.array_shape());
-    match changes(alloc, &array.grid, after, &array.encoding, keep) {
+    match changes(
+        alloc,
+        &array.grid,
+        after,
+        &array.encoding,
+        include_unchanged,
+    ) {
         Ok(walk) => write_changes(alloc, walk, sink),
         // Never: a resize keeps the number of dimensions.
         Err(Refusal::Refused(_)) => unreachable!(),

@@ -5,7 +5,7 @@ ghost use Rattle.zarrs_chunk_parts.specs.Plan.{IsPlan};
 ghost use Rattle.zarrs_chunk_tasks.specs.seen.Tasks.{CanGive, all_groups, groups_to_come};
 ghost use Rattle.programs.specs.chunkplan.Line.{lines_from, task_lines};
 ghost use Rattle.programs.specs.chunkplan.Stages.{IsStageFault, plans_in};
-ghost use Rattle.programs.specs.chunkplan.seen.Missing.{are_stored, is_left_out as left_out, is_stored_whole, line_unless_stored, share_unless_stored};
+ghost use Rattle.programs.specs.chunkplan.seen.Resume.{are_stored, is_left_out as left_out, is_stored_whole, line_unless_stored, share_unless_stored};
 ghost use Rattle.programs.specs.chunkplan.seen.Opened.{CanGiveParts, PartsToCome, dimensions_in, dimensions_of, key_of};
 ghost use Rattle.programs.specs.chunkplan.seen.Pieces.{text_as};
 ghost use Rattle.programs.specs.chunkplan.seen.PlannedTasks.{HasPartsOf, HasPlansOf, HavePlans, PlansToCome};
@@ -14,7 +14,7 @@ ghost use Rattle.programs.specs.chunkplan.seen.Steps.{IsMade, Leaves, StepLeaves
 ghost use Rattle.documents.specs.Reading.{made_of};
 
 use crate::chunkplan::RunFault;
-use crate::chunkplan::copying::{following, send_text, write_parts};
+use crate::chunkplan::copying::{next_number, send_text, write_parts};
 use crate::chunkplan::line::{Form, task_begin, task_end, task_middle};
 use crate::chunkplan::opened::{OpenedArray, OpenedParts, OpenedTasks};
 use crate::chunkplan::route::Stage;
@@ -22,7 +22,7 @@ use std::alloc::{AllocError, Global};
 use std::io::Write;
 use streams::Sink;
 use zarrs_chunk_base::ArraySubset;
-use zarrs_chunk_parts::expect_answer;
+use zarrs_chunk_parts::found_or_out_of_memory;
 use zarrs_chunk_plan::laws::all_fit;
 use zarrs_chunk_plan::{Part, Share, StoredChunks, parts};
 use zarrs_chunk_tasks::{Task, tasks_by};
@@ -118,7 +118,7 @@ fn write_tasks<W: Write>(
     let mut number = first;
     for task in walk {
         write_task(alloc, source, target, &task?, number, of, stored, sink)?;
-        number = following(number);
+        number = next_number(number);
     }
     Ok(())
 }
@@ -142,8 +142,8 @@ fn write_task<W: Write>(
 {
     task.source.is_a_box();
     task.target.is_a_box();
-    let from = expect_answer(parts(alloc, &source.grid, &source.encoding, &task.source))?;
-    let into = expect_answer(parts(alloc, &target.grid, &target.encoding, &task.target))?;
+    let from = found_or_out_of_memory(parts(alloc, &source.grid, &source.encoding, &task.source))?;
+    let into = found_or_out_of_memory(parts(alloc, &target.grid, &target.encoding, &task.target))?;
     let left_out = is_left_out(alloc, target, &task.target, stored)?;
     if left_out {
         return Ok(());
@@ -173,7 +173,7 @@ fn is_left_out(
         return Ok(false);
     };
     elements.is_a_box();
-    let into = expect_answer(parts(alloc, &target.grid, &target.encoding, elements))?;
+    let into = found_or_out_of_memory(parts(alloc, &target.grid, &target.encoding, elements))?;
     all_stored(into, stored)
 }
 

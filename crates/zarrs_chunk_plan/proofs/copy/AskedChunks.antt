@@ -13,9 +13,9 @@ module _ (before after : List Dimension) (used used_after kept : List ℕ)
     (named : (chunk : List ℕ) → AreBelow used chunk ↔ IsUsed before chunk)
     (named_after : (chunk : List ℕ) → AreBelow used_after chunk ↔ IsUsed after chunk)
     (are_kept : (chunk : List ℕ) → AreBelow kept chunk ↔ IsKept before after chunk)
-    (keeps : Bool) where
+    (include_unchanged : Bool) where
   asked : (chunk : List ℕ)
-      → (IsToldBefore keeps used kept chunk ⊎ IsOutside used used_after chunk) ↔ IsAsked before after keeps chunk
+      → (IsToldBefore include_unchanged used kept chunk ⊎ IsOutside used used_after chunk) ↔ IsAsked before after include_unchanged chunk
   asked chunk =
       let is_used_after = named_after chunk in
       let is_kept = are_kept chunk in
@@ -23,8 +23,8 @@ module _ (before after : List Dimension) (used used_after kept : List ℕ)
       grind arith
 
   pub are_changed : (chunks : List (List ℕ)) → AreOnce chunks
-      → ((chunk : List ℕ) → Contains chunks chunk ↔ (IsToldBefore keeps used kept chunk ⊎ IsOutside used used_after chunk))
-      → AreChanged before after keeps chunks
+      → ((chunk : List ℕ) → Contains chunks chunk ↔ (IsToldBefore include_unchanged used kept chunk ⊎ IsOutside used used_after chunk))
+      → AreChanged before after include_unchanged chunks
   are_changed chunks once told = record {
     once = once;
     are_those = λ chunk.

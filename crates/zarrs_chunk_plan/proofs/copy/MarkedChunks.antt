@@ -199,8 +199,8 @@ in_box b is_box number chunk found =
 module _ (ds : List Dimension) (K : List ℕ → List ℕ → Type 0) (targets keys : List (List ℕ)) (key : List ℕ) (before : StoredChunks)
     (known : Knows ds K targets keys before) where
   -- the key is that of none of the chunks that the plan writes
-  pub knows_foreign : ((chunk : List ℕ) → IsInside before.targets chunk → ¬ K chunk key) → Knows ds K targets (key ∷ keys) before
-  knows_foreign foreign = record {
+  pub knows_unexpected : ((chunk : List ℕ) → IsInside before.targets chunk → ¬ K chunk key) → Knows ds K targets (key ∷ keys) before
+  knows_unexpected unexpected = record {
     held = known.held;
     is_box = known.is_box;
     same_targets = known.same_targets;
@@ -208,7 +208,7 @@ module _ (ds : List Dimension) (K : List ℕ → List ℕ → Type 0) (targets k
         let inside = in_box before.targets known.is_box number chunk (rw known.same_targets found) in
         let (listed, stored) = known.each number chunk found in (
           λ marked. listed_more K key keys chunk (listed marked),
-          λ is. ⊎_elim (λ here. absurd (foreign chunk inside here)) stored (listed_cases K key keys chunk is),
+          λ is. ⊎_elim (λ here. absurd (unexpected chunk inside here)) stored (listed_cases K key keys chunk is),
         );
   }
 
@@ -245,7 +245,7 @@ module _ (ds : List Dimension) (K : List ℕ → List ℕ → Type 0) (targets k
       → ((chunk : List ℕ) → (IsInside before.targets chunk × K chunk key) ↔ MatchOption found ⊥ (λ it. it.items ≡ chunk))
       → (after : StoredChunks) → MatchOption found (after ≡ before) (λ it. IsMarked it.items before after) → Knows ds K targets (key ∷ keys) after
   knows_next None among after same =
-      subst (Knows ds K targets (key ∷ keys)) (sym same) (knows_foreign (λ chunk inside has. (among chunk).0 (inside, has)))
+      subst (Knows ds K targets (key ∷ keys)) (sym same) (knows_unexpected (λ chunk inside has. (among chunk).0 (inside, has)))
   knows_next (Some it) among after is =
       knows_marked after it.items is ((among it.items).1 refl).1 (λ other inside has. (among other).0 (inside, has))
 

@@ -10,7 +10,7 @@ use Rattle.std.proofs.lemmas.Bool.{true≢false}
 use Rattle.std.proofs.lemmas.Option.{none-some}
 use Rattle.std.specs.Option.{SomeIff}
 use Rattle.zarrs_chunk_plan.specs.Resize.{MayHold}
-use Rattle.zarrs_chunk_plan.specs.declared.resize.plan.Held.{Held}
+use Rattle.zarrs_chunk_plan.specs.declared.resize.plan.ChunkContents.{ChunkContents}
 use Rattle.zarrs_chunk_plan.specs.seen.Changes.{what_becomes}
 use Rattle.zarrs_chunk_plan.proofs.ByNumber.{as_many, counted_cases, length-shape}
 use Rattle.zarrs_chunk_plan.proofs.shares.Between.{none_below}
@@ -86,7 +86,7 @@ zero_counted = ⊎_elim (λ (low, some). sym some) (λ (past, none). absurd (ome
 -- ---- what becomes of a chunk
 
 module _ (ds es : List Dimension) (chunk : List ℕ) where
-  pub becomes : (before after : Option Held) (kept : Bool) (what : Change) → MayHold ds chunk before → MayHold es chunk after
+  pub becomes : (before after : Option ChunkContents) (kept : Bool) (what : Change) → MayHold ds chunk before → MayHold es chunk after
       → (IsTrue kept ↔ IsKept ds es chunk) → what_becomes (is_some before) (is_some after) kept ≡ Some what → IsChanged ds es chunk what
   becomes (Some b) (Some a) true what held holds tells is = subst (IsChanged ds es chunk) (same_Some _ _ is) (tells.0 refl)
   becomes (Some b) (Some a) false what held holds tells is =

@@ -2,7 +2,7 @@
 use Rattle.zarrs_chunk_plan.proofs.Common.{◌≡◌, ◌≢◌, ◌↔◌, ◌⊎◌, ◌∙◌, ℕ, zero, suc, ◌-◌, ◌<◌, ◌≤◌, List, [], ◌∷◌, ◌++◌, Contains, get_or, length, Bool}
 use Rattle.zarrs_chunk_plan.proofs.Common.{append-nil, map, replicate, set, refl, ap, inl, inr, subst, sym, ⊎_elim, arith, AreWithin, Box, IsBox}
 use Rattle.zarrs_chunk_plan.proofs.Common.{IsEmptyBox, IsInside, AreBelow, chunks_in, counted_from, are_those_inside, chunks_once, chunks_of_boxes}
-use Rattle.zarrs_chunk_plan.proofs.Common.{lesser}
+use Rattle.zarrs_chunk_plan.proofs.Common.{pairwise_min}
 use Rattle.std.proofs.Common.{length-set}
 use Rattle.std.proofs.lemmas.Grind.{flat_map-append, same_number_lists}
 use Rattle.std.proofs.lemmas.List.{get_or-set_other, get_or-set_same}
@@ -45,30 +45,30 @@ pub record HasGrown (inner outer : List ℕ) (left : ℕ) (shape : List ℕ) (bo
   pub once : AreOnce (chunks_of_boxes boxes)
 
 -- of two lists the lesser numbers
-lesser_long : (inner outer : List ℕ) → length inner ≡ length outer → length (lesser inner outer) ≡ length outer
-lesser_long [] [] same = refl
-lesser_long (_ ∷ inner) (_ ∷ outer) same = ap suc (lesser_long inner outer (omega arith))
-lesser_long _ _ same = absurd (omega arith)
+pairwise_min_long : (inner outer : List ℕ) → length inner ≡ length outer → length (pairwise_min inner outer) ≡ length outer
+pairwise_min_long [] [] same = refl
+pairwise_min_long (_ ∷ inner) (_ ∷ outer) same = ap suc (pairwise_min_long inner outer (omega arith))
+pairwise_min_long _ _ same = absurd (omega arith)
 
-lesser_within : (inner outer : List ℕ) → length inner ≡ length outer → (k : ℕ) → k < length outer → get_or (lesser inner outer) k 0 ≤ get_or outer k 0
-lesser_within (m ∷ inner) (n ∷ outer) same zero within = omega arith
-lesser_within (m ∷ inner) (n ∷ outer) same (suc k) within = lesser_within inner outer (omega arith) k (omega arith)
-lesser_within _ _ same k within = absurd (omega arith)
+pairwise_min_within : (inner outer : List ℕ) → length inner ≡ length outer → (k : ℕ) → k < length outer → get_or (pairwise_min inner outer) k 0 ≤ get_or outer k 0
+pairwise_min_within (m ∷ inner) (n ∷ outer) same zero within = omega arith
+pairwise_min_within (m ∷ inner) (n ∷ outer) same (suc k) within = pairwise_min_within inner outer (omega arith) k (omega arith)
+pairwise_min_within _ _ same k within = absurd (omega arith)
 
-lesser_below : (inner outer chunk : List ℕ) → length inner ≡ length outer
-    → AreBelow (lesser inner outer) chunk ↔ (AreBelow inner chunk × AreBelow outer chunk)
-lesser_below [] [] chunk same = (λ h. (h, h), λ (h, _). h)
-lesser_below (m ∷ inner) (n ∷ outer) (c ∷ chunk) same =
-    let rest = lesser_below inner outer chunk (omega arith) in grind arith
-lesser_below _ _ _ same = (λ h. absurd (first_of (assumption, omega arith)), λ (h, _). absurd (first_of (assumption, omega arith)))
+pairwise_min_below : (inner outer chunk : List ℕ) → length inner ≡ length outer
+    → AreBelow (pairwise_min inner outer) chunk ↔ (AreBelow inner chunk × AreBelow outer chunk)
+pairwise_min_below [] [] chunk same = (λ h. (h, h), λ (h, _). h)
+pairwise_min_below (m ∷ inner) (n ∷ outer) (c ∷ chunk) same =
+    let rest = pairwise_min_below inner outer chunk (omega arith) in grind arith
+pairwise_min_below _ _ _ same = (λ h. absurd (first_of (assumption, omega arith)), λ (h, _). absurd (first_of (assumption, omega arith)))
 
 none_in : (chunk : List ℕ) → ¬ Contains (chunks_of_boxes []) chunk
 none_in chunk (k, within, is) = omega arith
 
-pub not_grown : (inner outer : List ℕ) → length inner ≡ length outer → HasGrown (lesser inner outer) outer (length outer) (lesser inner outer) []
+pub not_grown : (inner outer : List ℕ) → length inner ≡ length outer → HasGrown (pairwise_min inner outer) outer (length outer) (pairwise_min inner outer) []
 not_grown inner outer same = record {
-  long = lesser_long inner outer same;
-  within = lesser_within inner outer same;
+  long = pairwise_min_long inner outer same;
+  within = pairwise_min_within inner outer same;
   grown = λ k from below. absurd (omega arith);
   those = λ chunk. (λ below. inl below, λ either. ⊎_elim (λ below. below) (λ has. absurd (none_in chunk has)) either);
   apart = λ chunk below. none_in chunk;
@@ -119,26 +119,26 @@ grown_more inner outer left shape boxes more added below_all so_far is_box are b
     }
 
 module _ (inner outer shape : List ℕ) (boxes : List Box) (same : length inner ≡ length outer)
-    (all : HasGrown (lesser inner outer) outer 0 shape boxes) where
+    (all : HasGrown (pairwise_min inner outer) outer 0 shape boxes) where
   all_grown : shape ≡ outer
   all_grown = same_number_lists shape outer all.long (λ k below. all.grown k (omega arith) (omega arith))
 
   pub are_outside : (chunk : List ℕ) → Contains (chunks_of_boxes boxes) chunk ↔ IsOutside inner outer chunk
   are_outside chunk =
-      let both = lesser_below inner outer chunk same in
+      let both = pairwise_min_below inner outer chunk same in
       let those = rw all_grown at (all.those chunk) in
       grind arith
 
 -- ---- the boxes of two lists
 
-module _ (keeps : Bool) (before after kept : List ℕ) (old added : List Box)
-    (are_old : (chunk : List ℕ) → Contains (chunks_of_boxes old) chunk ↔ IsToldBefore keeps before kept chunk)
+module _ (include_unchanged : Bool) (before after kept : List ℕ) (old added : List Box)
+    (are_old : (chunk : List ℕ) → Contains (chunks_of_boxes old) chunk ↔ IsToldBefore include_unchanged before kept chunk)
     (are_added : (chunk : List ℕ) → Contains (chunks_of_boxes added) chunk ↔ IsOutside before after chunk) where
   both_lists : chunks_of_boxes (old ++ added) ≡ chunks_of_boxes old ++ chunks_of_boxes added
   both_lists = flat_map-append chunks_in old added
 
   pub told_of : (chunk : List ℕ)
-      → Contains (chunks_of_boxes (old ++ added)) chunk ↔ (IsToldBefore keeps before kept chunk ⊎ IsOutside before after chunk)
+      → Contains (chunks_of_boxes (old ++ added)) chunk ↔ (IsToldBefore include_unchanged before kept chunk ⊎ IsOutside before after chunk)
   told_of chunk =
       let new = are_added chunk in
       let has = has_either (chunks_of_boxes old) (chunks_of_boxes added) chunk in

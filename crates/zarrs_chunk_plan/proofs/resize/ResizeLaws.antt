@@ -5,7 +5,7 @@ use Rattle.zarrs_chunk_plan.proofs.Common.{AllFit, AreBelow, inside_fits, array_
 use Rattle.zarrs_chunk_plan.proofs.Common.{Change}
 use Rattle.zarrs_chunk_base.proofs.InEach.{by_dimension, length_numbers}
 use Rattle.zarrs_chunk_plan.specs.Resize.{IsAsked, IsResizePlan}
-use Rattle.zarrs_chunk_plan.specs.declared.resize.plan.Change.TheVariants.{Delete, Keep, New, Rewrite}
+use Rattle.zarrs_chunk_plan.specs.declared.resize.plan.Change.TheVariants.{Create, Delete, Keep, Rewrite}
 use Rattle.zarrs_chunk_plan.specs.declared.resize.plan.ChunkChange.{ChunkChange}
 use Rattle.zarrs_chunk_plan.specs.seen.Used.{KeptAlong}
 use Rattle.zarrs_chunk_plan.proofs.resize.Kept.{is_used, kept_is_all, kept_used, same_start}
@@ -61,7 +61,7 @@ module _ (ds es : List Dimension) (chunk : List ℕ) where
   one_what Keep Keep is also = refl
   one_what Rewrite Rewrite is also = refl
   one_what Delete Delete is also = refl
-  one_what New New is also = refl
+  one_what Create Create is also = refl
   one_what _ _ is also = absurd (grind (arith, kept_used ds es chunk))
 
   module _ (index : List ℕ) where
@@ -78,9 +78,9 @@ module _ (ds es : List Dimension) (chunk : List ℕ) where
     leaving has gone _ is = absurd (grind (arith, is_used ds chunk index))
 
     pub coming : HasElementOf es chunk index → (¬ HasElementOf ds chunk index) → (what : Change) → IsChanged ds es chunk what
-        → (what ≡ Rewrite) ⊎ (what ≡ New)
+        → (what ≡ Rewrite) ⊎ (what ≡ Create)
     coming has none Rewrite is = inl refl
-    coming has none New is = inr refl
+    coming has none Create is = inr refl
     coming has none _ is = absurd (grind (arith, is_used es chunk index))
 
 -- a chunk that loses an element, or gets one, isn't kept
@@ -104,13 +104,13 @@ used_fits ds chunk chains fit (index, box, inside) =
 used_long : (ds : List Dimension) (chunk : List ℕ) → IsUsed ds chunk → length chunk ≡ length ds
 used_long ds chunk (index, box, inside) = length_numbers Holds ds chunk index box
 
-module _ (ds es : List Dimension) (IsKey : List ℕ → List ℕ → Type 0) (keeps : Bool) (changes : List ChunkChange)
-    (plan : IsResizePlan ds es IsKey keeps changes) where
-  pub has_one : (chunk : List ℕ) → IsAsked ds es keeps chunk → (change : ChunkChange) × Contains changes change × IsChange ds es IsKey chunk change
+module _ (ds es : List Dimension) (IsKey : List ℕ → List ℕ → Type 0) (include_unchanged : Bool) (changes : List ChunkChange)
+    (plan : IsResizePlan ds es IsKey include_unchanged changes) where
+  pub has_one : (chunk : List ℕ) → IsAsked ds es include_unchanged chunk → (change : ChunkChange) × Contains changes change × IsChange ds es IsKey chunk change
   has_one chunk asked = pair_of (IsChange ds es IsKey) plan.chunks changes plan.are_changes chunk ((plan.are_chunks.are_those chunk).1 asked)
 
   pub is_asked : (change : ChunkChange) → Contains changes change
-      → (chunk : List ℕ) × IsAsked ds es keeps chunk × IsChange ds es IsKey chunk change
+      → (chunk : List ℕ) × IsAsked ds es include_unchanged chunk × IsChange ds es IsKey chunk change
   is_asked change among =
       let (chunk, in_chunks, is) = source_of (IsChange ds es IsKey) plan.chunks changes plan.are_changes change among in
       (chunk, (plan.are_chunks.are_those chunk).0 in_chunks, is)

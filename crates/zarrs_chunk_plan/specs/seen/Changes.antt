@@ -8,7 +8,7 @@ use Rattle.zarrs_chunk_plan.specs.ArrayBoxes.{array_box}
 use Rattle.zarrs_chunk_plan.specs.Resize.{AreChangedChunks, IsChange}
 use Rattle.zarrs_chunk_plan.specs.declared.resize.chunk_changes.Changes.{Changes}
 use Rattle.zarrs_chunk_plan.specs.declared.resize.plan.Change.{Change}
-use Rattle.zarrs_chunk_plan.specs.declared.resize.plan.Change.TheVariants.{Delete, Keep, New, Rewrite}
+use Rattle.zarrs_chunk_plan.specs.declared.resize.plan.Change.TheVariants.{Create, Delete, Keep, Rewrite}
 use Rattle.zarrs_chunk_plan.specs.declared.resize.plan.ChunkChange.{ChunkChange}
 use Rattle.zarrs_chunk_plan.specs.seen.ChunkIter.{chunks_between}
 use Rattle.zarrs_chunk_plan.specs.seen.Outside.{chunks_of_boxes}
@@ -55,7 +55,7 @@ abbrev pub what_becomes : (before after kept : Bool) → Option Change
 what_becomes true true true = Some Keep
 what_becomes true true false = Some Rewrite
 what_becomes true false kept = Some Delete
-what_becomes false true kept = Some New
+what_becomes false true kept = Some Create
 what_becomes false false kept = None
 
 -- what holds of a change, where `next` gave one

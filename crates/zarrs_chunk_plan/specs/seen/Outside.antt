@@ -18,9 +18,9 @@ abbrev pub IsOutside : (inner outer chunk : List ℕ) → Type 0
 IsOutside inner outer chunk = AreBelow outer chunk × (¬ AreBelow inner chunk)
 
 -- the lesser of each two numbers
-abbrev pub lesser : List ℕ → List ℕ → List ℕ
-lesser one other = map (λ p. min p.0 p.1) (zip one other)
+abbrev pub pairwise_min : List ℕ → List ℕ → List ℕ
+pairwise_min one other = map (λ p. min p.0 p.1) (zip one other)
 
 -- the chunk is below the numbers, and not below those of the chunks that are kept, unless these are wanted
-abbrev pub IsToldBefore : (keeps : Bool) (before kept chunk : List ℕ) → Type 0
-IsToldBefore keeps before kept chunk = AreBelow before chunk × (IsTrue keeps ⊎ (¬ AreBelow kept chunk))
+abbrev pub IsToldBefore : (include_unchanged : Bool) (before kept chunk : List ℕ) → Type 0
+IsToldBefore include_unchanged before kept chunk = AreBelow before chunk × (IsTrue include_unchanged ⊎ (¬ AreBelow kept chunk))

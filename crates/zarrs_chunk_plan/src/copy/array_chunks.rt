@@ -8,7 +8,7 @@ ghost use Rattle.zarrs_chunk_plan.specs.seen.Used.{UsesFirst};
 
 use std::alloc::{AllocError, Global};
 use zarrs_chunk_base::ArraySubset;
-use zarrs_chunk_parts::expect_answer;
+use zarrs_chunk_parts::found_or_out_of_memory;
 use zarrs_chunks::ChunkGridTraits;
 
 /// The box of the chunks that hold elements of a grid's array.
@@ -34,5 +34,5 @@ pub(crate) fn chunks_of_array<G: ChunkGridTraits>(
 {
     array.is_a_box();
     let cover = grid.chunks_in_array_subset(alloc, array);
-    Ok(expect_answer(cover)?)
+    Ok(found_or_out_of_memory(cover)?)
 }

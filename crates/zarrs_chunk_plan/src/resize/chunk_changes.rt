@@ -1,7 +1,7 @@
 //! The walk over the changes of a resize.
 use crate::boxes_from_zero::whole_array;
 use crate::resize::changed::ChangedChunks;
-use crate::resize::plan::{Change, ChunkChange, Held};
+use crate::resize::plan::{Change, ChunkChange, ChunkContents};
 use crate::resize::used::held_by;
 use crate::shares::chunk_iter::ChunkIter;
 use crate::shares::numbered_chunks::count_of;
@@ -239,7 +239,7 @@ fn what_becomes(before: bool, after: bool, kept: bool) -> Option<Change>
         (true, true) if kept => Some(Change::Keep),
         (true, true) => Some(Change::Rewrite),
         (true, false) => Some(Change::Delete),
-        (false, true) => Some(Change::New),
+        (false, true) => Some(Change::Create),
         (false, false) => None,
     }
 }
@@ -264,7 +264,7 @@ fn may_hold<G: ChunkGridTraits>(
     array: &ArraySubset,
     used: &[u64],
     chunk: &[u64],
-) -> Result<Option<Held>, AllocError>
+) -> Result<Option<ChunkContents>, AllocError>
     ensures { array.now ≡ array_box (G.dimensions grid.now)
         → (AreBelow used.now chunk.now ↔ IsUsed (G.dimensions grid.now) chunk.now)
         → IfOk result (MayHold (G.dimensions grid.now) chunk.now) }

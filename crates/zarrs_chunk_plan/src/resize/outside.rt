@@ -4,7 +4,7 @@ ghost use Rattle.std.specs.List.{Contains};
 ghost use Rattle.zarrs_chunk_base.specs.ArraySubset.{IsBox, IsInside};
 ghost use Rattle.zarrs_chunk_axes.specs.InBounds.{AreBelow};
 ghost use Rattle.zarrs_chunks.specs.Walks.{chunks_in};
-ghost use Rattle.zarrs_chunk_plan.specs.seen.Outside.{AreOnce, IsOutside, chunks_of_boxes, lesser};
+ghost use Rattle.zarrs_chunk_plan.specs.seen.Outside.{AreOnce, IsOutside, chunks_of_boxes, pairwise_min};
 
 use crate::boxes_from_zero::{box_from_zero, zeros};
 use std::alloc::{AllocError, Global};
@@ -39,7 +39,7 @@ pub(crate) fn outside(
         → Contains (chunks_of_boxes boxes.items) chunk ↔ IsOutside inner.now outer.now chunk) }
     ensures once { IfOk result (λ boxes. AreOnce (chunks_of_boxes boxes.items)) }
 {
-    let mut shape = lesser(alloc, inner, outer)?;
+    let mut shape = pairwise_min(alloc, inner, outer)?;
     let mut boxes = Vec::with_capacity(alloc, outer.len())?;
     for dimension in (0..outer.len()).rev() {
         let added = added_part(alloc, &shape, dimension, outer[dimension])?;
@@ -53,8 +53,8 @@ pub(crate) fn outside(
 ///
 /// # Errors
 /// Out of memory.
-fn lesser(alloc: Global, one: &[u64], other: &[u64]) -> Result<ArrayShape, AllocError>
-    ensures { IfOk result (λ v. v.items ≡ lesser one.now other.now) }
+fn pairwise_min(alloc: Global, one: &[u64], other: &[u64]) -> Result<ArrayShape, AllocError>
+    ensures { IfOk result (λ v. v.items ≡ pairwise_min one.now other.now) }
 {
     let mut least = Vec::with_capacity(alloc, one.len())?;
     let pairs = one.iter().zip(other);

@@ -9,7 +9,7 @@ ghost use Rattle.zarrs_chunk_plan.specs.seen.Outside.{AreOnce, IsOutside, IsTold
 use crate::resize::changed::ChangedChunks;
 use crate::resize::chunk_changes::Changes;
 use crate::resize::outside::{below, outside};
-use crate::resize::used::{kept_along, or_zeros, used_along};
+use crate::resize::used::{chunks_along, kept_along, unwrap_or_zeros};
 use std::alloc::{AllocError, Global};
 use zarrs_chunk_base::{ArraySubset, IncompatibleDimensionalityError, Refusal, StoreKey};
 use zarrs_chunk_keys::ChunkKeyEncodingTraits;
@@ -26,12 +26,12 @@ pub enum Change {
     /// It is to be deleted: it holds no element of the array any more.
     Delete,
     /// It is to be written: it held no element of the array.
-    New,
+    Create,
 }
 
 /// What a chunk holds of an array.
 #[derive(Debug, Drop)]
-pub struct Held {
+pub struct ChunkContents {
     /// The elements of the array that lie in the chunk, as a box of the array. It begins with the chunk's first element.
     pub elements: ArraySubset,
     /// The chunk's edges, in elements, as its grid answers them: what is stored has this shape.
@@ -46,9 +46,9 @@ pub struct ChunkChange {
     /// The numbers of the chunk.
     pub chunk: ArrayIndicesTinyVec,
     /// What it holds of the array as it was; `None` where that is nothing.
-    pub before: Option<Held>,
+    pub before: Option<ChunkContents>,
     /// What it is to hold of the array as it is to be; `None` where that is nothing.
-    pub after: Option<Held>,
+    pub after: Option<ChunkContents>,
     /// What becomes of it.
     pub what: Change,
 }
@@ -68,11 +68,11 @@ pub fn changes<'a, G: ChunkGridTraits, H: ChunkGridTraits, E: ChunkKeyEncodingTr
     before: &'a G,
     after: &'a H,
     encoding: &'a E,
-    keeps: bool,
+    include_unchanged: bool,
 ) -> Result<Changes<'a, G, H, E>, Refusal<IncompatibleDimensionalityError>>
     ensures changed { AreResized (G.dimensions before.now) (H.dimensions after.now)
         → IfOk result (λ walk. AreChanged (G.dimensions before.now) (H.dimensions after.now)
-        keeps (changes_to_come walk)) }
+        include_unchanged (changes_to_come walk)) }
     ensures can_change { AreResized (G.dimensions before.now) (H.dimensions after.now)
         → IfOk result (CanChange G.dimensions H.dimensions) }
     ensures about { IfOk result (IsAboutResize before.now after.now encoding.now) }
@@ -87,7 +87,7 @@ pub fn changes<'a, G: ChunkGridTraits, H: ChunkGridTraits, E: ChunkKeyEncodingTr
 {
     expect_as_many(before, after)?;
     let uses = uses_of(alloc, before, after)?;
-    let boxes = boxes_of_changes(alloc, &uses, keeps)?;
+    let boxes = boxes_of_changes(alloc, &uses, include_unchanged)?;
     Ok(Changes::new(alloc, before, after, encoding, uses, boxes)?)
 }
 
@@ -128,13 +128,13 @@ pub(crate) fn uses_of<G: ChunkGridTraits, H: ChunkGridTraits>(
     ensures kept_lengths { IfOk result (λ uses. length uses.kept.items
         ≡ length uses.before.items) }
 {
-    let used_before = used_along(alloc, before)?;
-    let used_after = used_along(alloc, after)?;
+    let used_before = chunks_along(alloc, before)?;
+    let used_after = chunks_along(alloc, after)?;
     let kept = kept_along(alloc, before, after, &used_before, &used_after)?;
     Ok(ChangedChunks {
         before: used_before,
         after: used_after,
-        kept: or_zeros(kept),
+        kept: unwrap_or_zeros(kept),
     })
 }
 
@@ -145,17 +145,17 @@ pub(crate) fn uses_of<G: ChunkGridTraits, H: ChunkGridTraits>(
 fn boxes_of_changes(
     alloc: Global,
     uses: &ChangedChunks,
-    keeps: bool,
+    include_unchanged: bool,
 ) -> Result<Vec<ArraySubset>, AllocError>
     requires kept { length uses.now.kept.items ≡ length uses.now.before.items }
     requires after { length uses.now.after.items ≡ length uses.now.before.items }
     ensures those { IfOk result (λ boxes. (chunk : List ℕ)
         → Contains (chunks_of_boxes boxes.items) chunk
-        ↔ (IsToldBefore keeps uses.now.before.items uses.now.kept.items chunk
+        ↔ (IsToldBefore include_unchanged uses.now.before.items uses.now.kept.items chunk
         ⊎ IsOutside uses.now.before.items uses.now.after.items chunk)) }
     ensures once { IfOk result (λ boxes. AreOnce (chunks_of_boxes boxes.items)) }
 {
-    let mut boxes = boxes_before(alloc, uses, keeps)?;
+    let mut boxes = boxes_before(alloc, uses, include_unchanged)?;
     let mut added = outside(alloc, &uses.before, &uses.after)?;
     boxes.append(&mut added)?;
     Ok(boxes)
@@ -168,15 +168,15 @@ fn boxes_of_changes(
 fn boxes_before(
     alloc: Global,
     uses: &ChangedChunks,
-    keeps: bool,
+    include_unchanged: bool,
 ) -> Result<Vec<ArraySubset>, AllocError>
     requires { length uses.now.kept.items ≡ length uses.now.before.items }
     ensures those { IfOk result (λ boxes. (chunk : List ℕ)
         → Contains (chunks_of_boxes boxes.items) chunk
-        ↔ IsToldBefore keeps uses.now.before.items uses.now.kept.items chunk) }
+        ↔ IsToldBefore include_unchanged uses.now.before.items uses.now.kept.items chunk) }
     ensures once { IfOk result (λ boxes. AreOnce (chunks_of_boxes boxes.items)) }
 {
-    if keeps {
+    if include_unchanged {
         return below(alloc, &uses.before);
     }
     outside(alloc, &uses.kept, &uses.before)

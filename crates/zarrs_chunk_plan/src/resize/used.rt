@@ -9,7 +9,7 @@ ghost use Rattle.zarrs_chunk_plan.specs.seen.Used.{HasExtentAlong, KeepsAlong};
 use crate::boxes_from_zero::whole_array;
 use crate::copy::array_chunks::chunks_of_array;
 use crate::copy::chunk_elements::expect_found;
-use crate::resize::plan::Held;
+use crate::resize::plan::ChunkContents;
 use std::alloc::{AllocError, Global};
 use zarrs_chunk_base::{ArrayShape, ArraySubset};
 use zarrs_chunk_parts::shared_elements;
@@ -19,7 +19,7 @@ use zarrs_chunks::ChunkGridTraits;
 ///
 /// # Errors
 /// Out of memory.
-pub(crate) fn used_along<G: ChunkGridTraits>(
+pub(crate) fn chunks_along<G: ChunkGridTraits>(
     alloc: Global,
     grid: &G,
 ) -> Result<ArrayShape, AllocError>
@@ -41,14 +41,14 @@ pub(crate) fn held_by<G: ChunkGridTraits>(
     grid: &G,
     array: &ArraySubset,
     chunk: &[u64],
-) -> Result<Held, AllocError>
+) -> Result<ChunkContents, AllocError>
     ensures { array.now ≡ array_box (G.dimensions grid.now)
         → IsUsed (G.dimensions grid.now) chunk.now
         → IfOk result (IsHeld (G.dimensions grid.now) chunk.now) }
 {
     let shared = shared_elements(alloc, grid, array, chunk)?;
-    Ok(Held {
-        elements: shared.in_subset,
+    Ok(ChunkContents {
+        elements: shared.in_selection,
         shape: shared.shape,
     })
 }
@@ -85,7 +85,7 @@ pub(crate) fn kept_along<G: ChunkGridTraits, H: ChunkGridTraits>(
 }
 
 /// The numbers, or zeros if one of them is 0: no list is below either then.
-pub(crate) fn or_zeros(mut numbers: ArrayShape) -> ArrayShape
+pub(crate) fn unwrap_or_zeros(mut numbers: ArrayShape) -> ArrayShape
     ensures long { length result.items ≡ length numbers.items }
     ensures those { (list : List ℕ) → AreBelow result.items list ↔ AreBelow numbers.items list }
     ensures none { Contains result.items 0 → result.items ≡ replicate (length numbers.items) 0 }

@@ -94,10 +94,10 @@ pub fn written_box(subset: &ArraySubset) -> String {
 
 pub fn written_part(part: &Part) -> String {
     format!(
-        r#"{{"chunk":{},"in_chunk":[{},{shape}],"in_subset":[{},{shape}],"key":{}}}"#,
+        r#"{{"chunk":{},"in_chunk":[{},{shape}],"in_selection":[{},{shape}],"key":{}}}"#,
         written(&part.chunk),
         written(&part.in_chunk),
-        written(&part.in_subset),
+        written(&part.in_selection),
         written_text(&part.key),
         shape = written(&part.shape)
     )

@@ -203,8 +203,8 @@ impl Model {
                 lists[1].push((begin - from) as u64);
                 lists[2].push((end - begin) as u64);
             }
-            let [in_chunk, in_subset, shape] = lists;
-            [chunk, in_chunk, in_subset, shape]
+            let [in_chunk, in_selection, shape] = lists;
+            [chunk, in_chunk, in_selection, shape]
         };
         Some(row_major(&first, &counts).into_iter().map(part).collect())
     }

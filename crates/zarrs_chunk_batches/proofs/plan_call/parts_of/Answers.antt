@@ -46,6 +46,6 @@ returns-clause-ends c =
     let is_box = subst IsBox elements.value elements.is_box in
     ends_with (parts_call c.args.array.now c.args.elements.now c.args.first c.write_plan.new.buffers)
     (grid_in c.in_ok-grid.grid, encoding_in c.in_ok-encoding.encoding) c.write_plan.result (c.in_ok-grid.ensures.made, c.in_ok-encoding.ensures)
-    (c.in_ok-room.room, rw (same.chunks.1, same.in_chunk.1, same.in_subset.1, same.shapes.1, same.offsets.1) has_room)
+    (c.in_ok-room.room, rw (same.chunks.1, same.in_chunk.1, same.in_selection.1, same.shapes.1, same.offsets.1) has_room)
     (MatchResult-weaker c.write_plan.result (rw elements.value at c.write_plan.ensures.ends) (λ _ is. (is_box, is))
     (λ fault is. ⊎_elim (λ memory. inl memory) (λ short. inr (inr (short.0, is_box, short.1))) is))

@@ -19,8 +19,8 @@ write_parts-requires-clause-room g c k less =
     let long = ap length c.deref.ensures.value in
     let ends = ends_before width k c.args.room (omega arith) in
     let turned = mul_comm c.args.room width in
-    let (chunks, (in_chunk, (in_subset, (shapes, _)))) = rw (← c.dimensionality.ensures) at c.requires.room.1 in
-    record { has_chunk = omega arith; has_in_chunk = omega arith; has_in_subset = omega arith; has_shape = omega arith }
+    let (chunks, (in_chunk, (in_selection, (shapes, _)))) = rw (← c.dimensionality.ensures) at c.requires.room.1 in
+    record { has_chunk = omega arith; has_in_chunk = omega arith; has_in_selection = omega arith; has_shape = omega arith }
 
 pub write_parts-requires-clause-long : goal.write_parts-requires-clause-long
 write_parts-requires-clause-long g c =
@@ -61,7 +61,7 @@ returns-clause-ends g c =
     let of_width = subst (λ width. AreWrittenBelow (length parts) width parts lists) c.dimensionality.ensures of_parts in
     let are_written : AreWrittenBelow (length parts) (length ds) parts buffers = λ number less part is_part.
     let is = of_width number less part is_part in
-    record { is_chunk = is.is_chunk; is_in_chunk = is.is_in_chunk; is_in_subset = is.is_in_subset; is_shape = is.is_shape }
+    record { is_chunk = is.is_chunk; is_in_chunk = is.is_in_chunk; is_in_selection = is.is_in_selection; is_shape = is.is_shape }
     in
     let counted : c.len.result ≡ length parts = omega (arith, some.parts.ok.0, c.len.ensures) in
     let of_keys =

@@ -26,9 +26,9 @@ returns-clause-boxes g c = λ meets.
     let (_, _, shared) = boxes_are ds subset chunk origin edges c.start-start.ensures.is_box meets is long in
     let sizes = rw c.deref-4.ensures.value at c.sizes_shared-sizes.ensures in
     let copied = rw c.deref-6.ensures.value at c.in_ok-from_slice-2.ensures.items in
-    let also = rw (c.in_ok-from_slice.ensures.items, c.deref-5.ensures.value, c.start-start.ensures.value) at c.steps_to-from_start.ensures in
-    let steps = rw c.start-start.ensures.value at c.steps_to.ensures in
-    rw (c.in_ok-in_chunk.ensures.value, c.in_ok-in_subset.ensures.value, steps, also, copied, sizes) shared
+    let also = rw (c.in_ok-from_slice.ensures.items, c.deref-5.ensures.value, c.start-start.ensures.value) at c.distance-from_start.ensures in
+    let steps = rw c.start-start.ensures.value at c.distance.ensures in
+    rw (c.in_ok-in_chunk.ensures.value, c.in_ok-in_selection.ensures.value, steps, also, copied, sizes) shared
 
 pub returns-clause-whole : goal.returns-clause-whole
 returns-clause-whole g c = λ meets.

@@ -6,7 +6,7 @@ returns-clause-to_come g c = λ walk changes can.
     all_changes_to_come g.G.ChunkGridTraits.dimensions g.H.ChunkGridTraits.dimensions g.E.ChunkKeyEncodingTraits.is_key walk changes can
 
 pub returns-clause-plan : goal.returns-clause-plan
-returns-clause-plan g c = λ keeps walk changes are about given. record {
+returns-clause-plan g c = λ include_unchanged walk changes are about given. record {
   chunks = _;
   are_chunks = are;
   are_changes = rw (about.same_before, about.same_after, about.same_encoding) at given;

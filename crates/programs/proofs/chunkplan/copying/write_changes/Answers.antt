@@ -57,7 +57,7 @@ loop-change-preserved g c =
     let (text, made, more, failed) = c.in_ok-send_text.ensures in
     let is = made_text (λ text. text ≡ change_line c.loop-change.number of change) c.change_line.result (rw c.in_all-of.ensures at c.change_line.ensures) text made in (
       suc n,
-      c.following-number.ensures n number_is,
+      c.next_number-number.ensures n number_is,
       way_goes_on (line_of_one (all_changes walk)) 0 _ _ (λ _. ⊥) (λ y. y ≡ change) n _ _ _ sent
           (λ came y have same. one_more_change dimensions_in dimensions_in key_in walk c.loop-change.change-iterator c.next.new.self change came (came ++ y ∷ []) have
           gives (rw same refl))

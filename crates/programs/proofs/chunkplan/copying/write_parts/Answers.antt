@@ -33,7 +33,7 @@ loop-part-preserved g c = λ begin is_first.
     let (text, made, more, failed) = c.in_ok-send_text.ensures in
     let is = made_text (λ text. text ≡ text_as c.args.form c.loop-part.number part) c.part_text.result c.part_text.ensures text made in (
       suc n,
-      c.following-number.ensures n number_is,
+      c.next_number-number.ensures n number_is,
       way_goes_on (λ n. text_as c.args.form (counted n)) begin _ _ (λ _. ⊥) (λ p. p ≡ part) n _ _ _ sent
           (λ came p have same. one_more dimensions_in key_in c.args.walk c.loop-part.part-iterator c.next.new.self part came (came ++ p ∷ []) have gives
           (rw same refl))

@@ -1,6 +1,6 @@
 use Rattle.programs.proofs.chunkplan.Common.{◌≡◌, ◌∙◌, ◌++◌, [], ap, refl, drop_through, take_through, watched, behind, here, unended, left}
 use Rattle.programs.proofs.chunkplan.Common.{for_known, nothing_left}
-use Rattle.programs.specs.chunkplan.seen.Missing.{with_line}
+use Rattle.programs.specs.chunkplan.seen.Resume.{with_line}
 use Rattle.programs.proofs.chunkplan.Exits.{handed}
 use Rattle.programs.proofs.chunkplan.KeyLines.{key_stops, no_more_lines, one_more_line, reading_stops_keys}
 use Rattle.programs.proofs.chunkplan.keys.note_keys.Goals as goal

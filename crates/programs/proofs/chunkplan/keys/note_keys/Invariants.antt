@@ -1,5 +1,5 @@
 use Rattle.programs.proofs.chunkplan.Common.{◌≡◌, [], ℕ, List, Some, has_failed, watched, IsFirstNoText, left}
-use Rattle.programs.specs.chunkplan.seen.Missing.{HaveNoted}
+use Rattle.programs.specs.chunkplan.seen.Resume.{HaveNoted}
 use Rattle.programs.specs.chunkplan.seen.Opened.{dimensions_of, key_of}
 use Rattle.programs.proofs.chunkplan.KeyLines.{HaveCome}
 use Rattle.programs.proofs.chunkplan.keys.note_keys.Given as goal
@@ -11,9 +11,9 @@ invariant-loop-number g l =
     → (came : List (List ℕ)) × (rest : List ℕ) × (left l.lines (g.R.Read.remaining (watched l.reader)) ≡ Some rest) × HaveCome bytes came rest
     × ((targets : List (List ℕ))
     → HaveNoted (dimensions_of l.fn.target) (key_of l.fn.target) targets []
-    l.initial.stored l.initial.foreign.items
+    l.initial.stored l.initial.unexpected.items
     → HaveNoted (dimensions_of l.fn.target) (key_of l.fn.target) targets came
-    l.stored l.foreign.items)
+    l.stored l.unexpected.items)
     × ((number : ℕ) → IsFirstNoText l.number rest number → IsFirstNoText 2 bytes number))
     × (l.line.items ≡ [])
     × (has_failed l.reader ≡ has_failed l.initial.reader)

@@ -1,5 +1,5 @@
 use Rattle.programs.proofs.chunkplan.Common.{◌∙◌, [], ◌∷◌, ◌++◌, IsTrue, at_first, at_last, one_more, refl, sym}
-use Rattle.programs.specs.chunkplan.seen.Missing.{is_stored_whole}
+use Rattle.programs.specs.chunkplan.seen.Resume.{is_stored_whole}
 use Rattle.programs.specs.chunkplan.seen.Opened.{dimensions_in, key_in}
 use Rattle.programs.proofs.chunkplan.StoredParts.{first_are_not, one_is_not, one_more_stored, same_stored}
 use Rattle.programs.proofs.chunkplan.task_lines.all_stored.Goals as goal

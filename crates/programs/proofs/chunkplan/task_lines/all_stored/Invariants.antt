@@ -1,5 +1,5 @@
 use Rattle.programs.proofs.chunkplan.Common.{IsTrue, List, Part}
-use Rattle.programs.specs.chunkplan.seen.Missing.{are_stored}
+use Rattle.programs.specs.chunkplan.seen.Resume.{are_stored}
 use Rattle.zarrs_chunk_questions.proofs.PartsAhead.{PartsHaveCome}
 use Rattle.programs.proofs.chunkplan.task_lines.all_stored.Given as goal
 

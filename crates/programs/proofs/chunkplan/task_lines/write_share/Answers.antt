@@ -1,7 +1,7 @@
 use Rattle.programs.proofs.chunkplan.Common.{◌≡◌, ◌∙◌, ap, inl, length, option_map, refl, sym, share_of}
 use Rattle.zarrs_chunk_tasks.specs.seen.Tasks.{all_groups}
 use Rattle.programs.specs.chunkplan.seen.Opened.{dimensions_in, key_in}
-use Rattle.programs.specs.chunkplan.seen.Missing.{line_unless_stored}
+use Rattle.programs.specs.chunkplan.seen.Resume.{line_unless_stored}
 use Rattle.programs.proofs.chunkplan.Exits.{handed}
 use Rattle.programs.proofs.chunkplan.SharedLines.{lines_of_share}
 use Rattle.programs.proofs.chunkplan.Steps.{text_follows}

@@ -6,7 +6,7 @@ use Rattle.zarrs_chunk_plan.specs.declared.stored_array.StoredArray.{StoredArray
 use Rattle.zarrs_chunk_plan.specs.seen.Parts.{IsPlanned}
 use Rattle.zarrs_chunk_plan.proofs.Walked.{planned_meet}
 use Rattle.zarrs_chunk_tasks.specs.declared.task.Task.{Task}
-use Rattle.programs.specs.chunkplan.seen.Missing.{is_left_out, line_unless_stored}
+use Rattle.programs.specs.chunkplan.seen.Resume.{is_left_out, line_unless_stored}
 use Rattle.programs.specs.chunkplan.seen.Opened.{PartsToCome, dimensions_in, dimensions_of, key_of}
 use Rattle.programs.specs.chunkplan.seen.PlannedTasks.{HasPartsOf}
 use Rattle.programs.specs.chunkplan.seen.Steps.{IsMade}

@@ -1,7 +1,7 @@
 use Rattle.programs.proofs.chunkplan.Common.{◌≡◌, ◌∙◌, ℕ, suc, List, [], Err, ap, length, refl, arith, counted, option_map, TaskPlan, Output, written}
 use Rattle.programs.proofs.chunkplan.Common.{sends_nothing, subst, sym, Ok, Some}
 use Rattle.zarrs_chunk_tasks.specs.seen.Tasks.{GivesTask, all_groups}
-use Rattle.programs.specs.chunkplan.seen.Missing.{line_unless_stored}
+use Rattle.programs.specs.chunkplan.seen.Resume.{line_unless_stored}
 use Rattle.programs.specs.chunkplan.seen.Opened.{dimensions_in, key_in}
 use Rattle.programs.specs.chunkplan.seen.PlannedTasks.{HasPartsOf}
 use Rattle.programs.proofs.chunkplan.Exits.{handed}
@@ -38,7 +38,7 @@ loop-task-preserved g c = λ begin is_first.
     let of = counted (length (all_groups walk)) in
     let (text, (plan, same, have, is), more, failed) = rw c.in_all-of.ensures at c.in_ok-write_task.ensures in (
       suc n,
-      c.following-number.ensures n number_is,
+      c.next_number-number.ensures n number_is,
       way_goes_on (λ n. line_unless_stored (option_map (λ s. s.now) c.args.stored) (counted n) of) begin _ _ (λ _. ⊥) (λ y. (y.0 ≡ task) × HasPartsOf source target y) n _ _ _ sent
           (λ came y had (is_task, has).
           one_more_task dimensions_in key_in source target walk c.loop-task.task-iterator c.next.new.self y came had

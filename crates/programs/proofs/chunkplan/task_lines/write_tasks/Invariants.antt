@@ -1,7 +1,7 @@
 use Rattle.programs.proofs.chunkplan.Common.{◌≡◌, ℕ, length, counted, option_map, written}
 use Rattle.zarrs_chunk_tasks.specs.seen.Tasks.{all_groups}
 use Rattle.programs.specs.chunkplan.seen.Opened.{dimensions_in, key_in}
-use Rattle.programs.specs.chunkplan.seen.Missing.{line_unless_stored}
+use Rattle.programs.specs.chunkplan.seen.Resume.{line_unless_stored}
 use Rattle.programs.specs.chunkplan.seen.Steps.{HasSent}
 use Rattle.programs.proofs.chunkplan.Numbered.{Came}
 use Rattle.zarrs_chunk_tasks.proofs.TasksBegun.{TasksHaveCome}

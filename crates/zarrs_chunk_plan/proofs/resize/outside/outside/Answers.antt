@@ -1,4 +1,4 @@
-use Rattle.zarrs_chunk_plan.proofs.Common.{◌≡◌, ◌-◌, suc, arith, subst, lesser}
+use Rattle.zarrs_chunk_plan.proofs.Common.{◌≡◌, ◌-◌, suc, arith, subst, pairwise_min}
 use Rattle.zarrs_chunk_plan.proofs.resize.OutsideBoxes.{HasGrown, are_outside, grown_more, not_grown}
 use Rattle.zarrs_chunk_plan.proofs.resize.outside.outside.Goals as goal
 
@@ -7,7 +7,7 @@ loop-dimension-init c = rw (c.in_ok-shape.ensures, c.in_ok-boxes.ensures.items) 
 
 pub loop-dimension-preserved : goal.loop-dimension-preserved
 loop-dimension-preserved c =
-    let both = lesser c.args.inner.now c.args.outer.now in
+    let both = pairwise_min c.args.inner.now c.args.outer.now in
     let outer = c.args.outer.now in
     let shape = c.loop-dimension.shape.items in
     let boxes = c.loop-dimension.boxes.items in
@@ -25,4 +25,4 @@ returns-clause-those c = λ chunk.
     let outer = c.args.outer.now in
     let ended : c.loop-dimension.dimension ≡ 0 = omega arith in
     are_outside inner outer c.loop-dimension.shape.items c.loop-dimension.boxes.items c.requires
-    (subst (λ d. HasGrown (lesser inner outer) outer d c.loop-dimension.shape.items c.loop-dimension.boxes.items) ended c.loop-dimension.invariant) chunk
+    (subst (λ d. HasGrown (pairwise_min inner outer) outer d c.loop-dimension.shape.items c.loop-dimension.boxes.items) ended c.loop-dimension.invariant) chunk

@@ -12,8 +12,8 @@ returns-clause-changed g c = λ resized.
       before_it = before;
       after_it = c.in_ok-used_after.ensures;
       kept = record {
-        long = c.or_zeros.ensures.long ∙ long;
-        those = λ chunk. let same = c.or_zeros.ensures.those chunk in (λ below. (kept chunk).0 (same.0 below), λ is. same.1 ((kept chunk).1 is));
-        none = λ has. c.or_zeros.ensures.none has ∙ ap (λ n. replicate n 0) long;
+        long = c.unwrap_or_zeros.ensures.long ∙ long;
+        those = λ chunk. let same = c.unwrap_or_zeros.ensures.those chunk in (λ below. (kept chunk).0 (same.0 below), λ is. same.1 ((kept chunk).1 is));
+        none = λ has. c.unwrap_or_zeros.ensures.none has ∙ ap (λ n. replicate n 0) long;
       };
     }

@@ -11,7 +11,7 @@ returns g c = λ array used.
     record {
       is_box = boxes.from_subset.is_box;
       elements = λ index.
-          let found = found_are ds chunk shared.in_chunk shared.in_subset boxes used index in
+          let found = found_are ds chunk shared.in_chunk shared.in_selection boxes used index in
           let held = held_elements ds chunk index in
           (λ inside. held.0 (found.0 inside), λ has. found.1 (held.1 has));
       shape = c.in_ok-shared.ensures.shape;

@@ -1,7 +1,7 @@
 use Rattle.zarrs_chunk_plan.proofs.Common.{◌≡◌, ◌∙◌, length, ap, ⊎_elim, subst, sym, length-replicate, AreWithin}
 use Rattle.zarrs_chunk_plan.proofs.BoxCover.{below_from_zero}
 use Rattle.zarrs_chunk_plan.proofs.Plans.{empty_or_some}
-use Rattle.zarrs_chunk_plan.proofs.resize.used.used_along.Goals as goal
+use Rattle.zarrs_chunk_plan.proofs.resize.used.chunks_along.Goals as goal
 
 pub returns : goal.returns
 returns g c =

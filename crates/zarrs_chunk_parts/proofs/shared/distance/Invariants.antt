@@ -1,5 +1,5 @@
 use Rattle.std.proofs.Common.{◌≡◌, ℕ, ◌-◌, ◌<◌, ◌≤◌, length, slice_index_or}
-use Rattle.zarrs_chunk_parts.proofs.shared.steps_to.Given as goal
+use Rattle.zarrs_chunk_parts.proofs.shared.distance.Given as goal
 
 -- the dimensions so far hold the steps, the others still the index that they are counted from
 abbrev pub invariant-loop-dimension : goal.invariant-loop-dimension

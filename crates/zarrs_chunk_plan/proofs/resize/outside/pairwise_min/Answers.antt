@@ -1,7 +1,7 @@
 use Rattle.zarrs_chunk_plan.proofs.Common.{rules, zip, ◌≡◌, map, min, tests, YieldsList-from_slice, YieldsList-from_zip, YieldsList-at}
 use Rattle.std.proofs.lemmas.Iterator.{YieldsList-from_map}
 use Rattle.std.proofs.lemmas.Iterator.Adapters.{items_from_extend}
-use Rattle.zarrs_chunk_plan.proofs.resize.outside.lesser.Goals as goal
+use Rattle.zarrs_chunk_plan.proofs.resize.outside.pairwise_min.Goals as goal
 
 pub returns : goal.returns
 returns c =

@@ -7,7 +7,7 @@ use Rattle.programs.specs.chunkplan.seen.Routes.{stage_of, stages_found}
 use Rattle.programs.proofs.chunkplan.KeySteps.{read_first, read_later}
 use Rattle.programs.proofs.chunkplan.ReadsLast.{fails_later}
 use Rattle.programs.proofs.chunkplan.RunOutcomes.{asked_still, copy_stages_still}
-use Rattle.programs.proofs.chunkplan.missing.write_copy.Goals as goal
+use Rattle.programs.proofs.chunkplan.resume.write_copy.Goals as goal
 
 pub returns-in_err-found-clause-leaves : goal.returns-in_err-found-clause-leaves
 returns-in_err-found-clause-leaves g c = λ bytes is.

@@ -1,6 +1,6 @@
 use Rattle.programs.proofs.chunkplan.Common.{◌≡◌, ◌∙◌, ℕ, suc, ◌+◌, ◌<◌, Option, Some, None, sym, arith, counted, counted_cases}
 use Rattle.std.specs.Option.{SomeIff}
-use Rattle.programs.proofs.chunkplan.copying.following.Goals as goal
+use Rattle.programs.proofs.chunkplan.copying.next_number.Goals as goal
 
 next : (k n : ℕ) (more : Option ℕ) → Some k ≡ counted n → SomeIff more (k + 1 < 18446744073709551616) (k + 1) → more ≡ counted (suc n)
 next k n more is made = let now = counted_cases n in let then = counted_cases (suc n) in grind arith

@@ -6,7 +6,7 @@ use Rattle.zarrs_chunk_plan.proofs.MovedBoxes.{within_long, within_starts}
 use Rattle.programs.specs.chunkplan.RunFault.{of_region}
 use Rattle.programs.proofs.chunkplan.Exits.{handed}
 use Rattle.programs.proofs.chunkplan.Steps.{refused_or}
-use Rattle.programs.proofs.chunkplan.missing.none_stored.Goals as goal
+use Rattle.programs.proofs.chunkplan.resume.none_stored.Goals as goal
 
 -- a region that can be moved has no fault
 no_region_fault : (source target : List ℕ) (region : Box) (at : List ℕ) → CanBeMoved source target region at → (error : RegionError)

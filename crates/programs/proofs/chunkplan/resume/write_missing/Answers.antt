@@ -6,7 +6,7 @@ use Rattle.zarrs_chunk_tasks.specs.declared.walk.Tasks.{Tasks}
 use Rattle.zarrs_chunks.specs.declared.chunk_grid.named.ChunkGrid.{ChunkGrid}
 use Rattle.programs.specs.chunkplan.Planned.{missing_of, missing_text}
 use Rattle.programs.specs.chunkplan.Stages.{AreStagePlans, plans_in}
-use Rattle.programs.specs.chunkplan.seen.Missing.{HaveNoted, share_unless_stored}
+use Rattle.programs.specs.chunkplan.seen.Resume.{HaveNoted, share_unless_stored}
 use Rattle.programs.specs.chunkplan.seen.Opened.{dimensions_in, dimensions_of, key_in, key_of}
 use Rattle.programs.specs.chunkplan.seen.PlannedTasks.{HasPlansOf, PlansToCome}
 use Rattle.programs.specs.chunkplan.seen.Routes.{stage_of}
@@ -19,7 +19,7 @@ use Rattle.programs.proofs.chunkplan.RunOutcomes.{missing_still, no_read_fault, 
 use Rattle.programs.proofs.chunkplan.Steps.{text_follows}
 use Rattle.programs.proofs.chunkplan.StoredTasks.{none_noted, still_missing}
 use Rattle.zarrs_chunk_tasks.proofs.TasksBegun.{first_task, tasks_ahead}
-use Rattle.programs.proofs.chunkplan.missing.write_missing.Goals as goal
+use Rattle.programs.proofs.chunkplan.resume.write_missing.Goals as goal
 
 -- a walk over the tasks of a stage has tasks to give
 module _ (stage : StageValue) (walk : Tasks ChunkGrid) (has : HasPlansOf stage walk) where
@@ -29,10 +29,10 @@ module _ (stage : StageValue) (walk : Tasks ChunkGrid) (has : HasPlansOf stage w
       (first_task dimensions_in key_in stage.source.now stage.target.now walk walk refl has.can) in
       (plans, has.are plans come, come)
 
-  -- the lines of the tasks that aren't done, and behind them those of the foreign keys
+  -- the lines of the tasks that aren't done, and behind them those of the unexpected keys
   module _ (cover : Box) (covers : Covers (dimensions_of stage.target.now) (moved stage.at.items stage.region) cover) (few : length (chunks_in cover) < 2 ^ 29)
-      (keys : List (List ℕ)) (stored : StoredChunks) (foreign : List ℕ)
-      (noted : HaveNoted (dimensions_of stage.target.now) (key_of stage.target.now) (chunks_in cover) keys stored foreign) (share : Share) where
+      (keys : List (List ℕ)) (stored : StoredChunks) (unexpected : List ℕ)
+      (noted : HaveNoted (dimensions_of stage.target.now) (key_of stage.target.now) (chunks_in cover) keys stored unexpected) (share : Share) where
     abbrev AreLines : List ℕ → Type 0
     AreLines text = (plans : List TaskPlan) × PlansToCome stage.source.now stage.target.now walk plans × (text ≡ share_unless_stored (Some stored) share plans)
 
@@ -40,13 +40,13 @@ module _ (stage : StageValue) (walk : Tasks ChunkGrid) (has : HasPlansOf stage w
     IsWhole text = (plans : List TaskPlan) × AreStagePlans (stage_of stage) plans × IsMissingText (stage_of stage) keys share plans text
 
     both : (plans : List TaskPlan) → PlansToCome stage.source.now stage.target.now walk plans
-        → IsMissingText (stage_of stage) keys share plans (share_unless_stored (Some stored) share plans ++ foreign)
-    both plans come = still_missing stage cover covers few keys stored plans (has.are plans come) foreign noted share
+        → IsMissingText (stage_of stage) keys share plans (share_unless_stored (Some stored) share plans ++ unexpected)
+    both plans come = still_missing stage cover covers few keys stored plans (has.are plans come) unexpected noted share
 
     lines_begin : Begins AreLines IsWhole
-    lines_begin text (plans, come, is) = (foreign, (plans, has.are plans come, rw is (both plans come)))
+    lines_begin text (plans, come, is) = (unexpected, (plans, has.are plans come, rw is (both plans come)))
 
-    whole : (text : List ℕ) → Behind AreLines (λ text. text ≡ foreign) text → IsWhole text
+    whole : (text : List ℕ) → Behind AreLines (λ text. text ≡ unexpected) text → IsWhole text
     whole text (one, other, (plans, come, is), same, joined) = (plans, has.are plans come, rw (joined, is, same) (both plans come))
 
   -- without any key there is a text
@@ -91,12 +91,12 @@ returns-in_err-write_share-clause-leaves g c = λ bytes is.
     let Text = missing_text c.args.share.now bytes stage in
     let (cover, covers, few, knows) = c.in_ok-stored.ensures in
     let (keys, are, noted) = c.in_ok-note_keys.ensures.noted bytes (chunks_in cover) is
-    (none_noted target IsKeyOf (chunks_in cover) c.in_ok-stored.stored _ knows c.new-foreign.ensures.items)
+    (none_noted target IsKeyOf (chunks_in cover) c.in_ok-stored.stored _ knows c.new-unexpected.ensures.items)
     in
     let Whole : List ℕ → Type 0 = λ text. (plans : List TaskPlan) × AreStagePlans stage plans × IsMissingText stage keys c.args.share.now plans text in
     let before : Output = written g.W.Write.contents c.args.sink.now in
     let after : Output = written g.W.Write.contents c.write_share.new.sink in
-    let begins = lines_begin value c.in_ok-walk.walk c.in_ok-walk.ensures cover covers few keys c.note_keys.new.stored c.note_keys.new.foreign.items noted
+    let begins = lines_begin value c.in_ok-walk.walk c.in_ok-walk.ensures cover covers few keys c.note_keys.new.stored c.note_keys.new.unexpected.items noted
     c.args.share.now
     in
     rw (handed _ _ c.from_residual-in_err-write_share.ensures.1)
@@ -115,23 +115,23 @@ returns-clause-leaves g c = λ bytes is.
     let Text = missing_text c.args.share.now bytes stage in
     let (cover, covers, few, knows) = c.in_ok-stored.ensures in
     let (keys, are, noted) = c.in_ok-note_keys.ensures.noted bytes (chunks_in cover) is
-    (none_noted target IsKeyOf (chunks_in cover) c.in_ok-stored.stored _ knows c.new-foreign.ensures.items)
+    (none_noted target IsKeyOf (chunks_in cover) c.in_ok-stored.stored _ knows c.new-unexpected.ensures.items)
     in
     let Whole : List ℕ → Type 0 = λ text. (plans : List TaskPlan) × AreStagePlans stage plans × IsMissingText stage keys c.args.share.now plans text in
     let before : Output = written g.W.Write.contents c.args.sink.now in
     let between : Output = written g.W.Write.contents c.write_share.new.sink in
     let after : Output = written g.W.Write.contents c.send_text.new.sink in
-    let begins = lines_begin value c.in_ok-walk.walk c.in_ok-walk.ensures cover covers few keys c.note_keys.new.stored c.note_keys.new.foreign.items noted
+    let begins = lines_begin value c.in_ok-walk.walk c.in_ok-walk.ensures cover covers few keys c.note_keys.new.stored c.note_keys.new.unexpected.items noted
     c.args.share.now
     in
-    let ends = whole value c.in_ok-walk.walk c.in_ok-walk.ensures cover covers few keys c.note_keys.new.stored c.note_keys.new.foreign.items noted
+    let ends = whole value c.in_ok-walk.walk c.in_ok-walk.ensures cover covers few keys c.note_keys.new.stored c.note_keys.new.unexpected.items noted
     c.args.share.now
     in
     after_reading (λ text. Text (Ok text)) (λ fault. Text (Err fault)) _ _ before
     (none_of_reading (λ fault. Text (Err fault)) (missing_still c.args.share.now bytes stage)) after _ c.in_ok-note_keys.ensures.failed
     (rw is at c.in_ok-note_keys.ensures.end) c.send_text.result
     (text_follows Whole (λ text. Text (Ok text)) (λ fault. Text (Err fault)) (λ text (plans, have, missing). (plans, have, (keys, are, missing))) before after c.send_text.result
-    (ends_behind _ (λ text. text ≡ c.note_keys.new.foreign.items) _ before between after c.in_ok-write_share.ensures begins ends c.send_text.result
+    (ends_behind _ (λ text. text ≡ c.note_keys.new.unexpected.items) _ before between after c.in_ok-write_share.ensures begins ends c.send_text.result
     c.send_text.ensures))
 
 pub returns-in_err-walk-clause-keys_last : goal.returns-in_err-walk-clause-keys_last

@@ -5,7 +5,7 @@ use Rattle.programs.proofs.chunkplan.KeySteps.{read_first, read_later}
 use Rattle.programs.proofs.chunkplan.ReadsLast.{fails_later, fails_of_share}
 use Rattle.programs.proofs.chunkplan.RunOutcomes.{source_still, target_still}
 use Rattle.programs.proofs.chunkplan.StoredTasks.{of_share}
-use Rattle.programs.proofs.chunkplan.missing.write_beside_keys.Goals as goal
+use Rattle.programs.proofs.chunkplan.resume.write_beside_keys.Goals as goal
 
 pub returns-in_err-array-clause-leaves : goal.returns-in_err-array-clause-leaves
 returns-in_err-array-clause-leaves g c = λ bytes is.

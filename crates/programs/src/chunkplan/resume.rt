@@ -24,7 +24,7 @@ use crate::chunkplan::task_lines::{tasks_of, write_share};
 use std::alloc::Global;
 use std::io::{Read, Write};
 use streams::{Lines, Sink, Watched};
-use zarrs_chunk_parts::expect_answer;
+use zarrs_chunk_parts::found_or_out_of_memory;
 use zarrs_chunk_plan::{Share, StoredChunks, moved_box, parts};
 
 /// Reads the keys behind a document, and sends the lines that it asks for of what isn't stored under any of them; and behind these the line of each
@@ -113,12 +113,12 @@ fn write_missing<R: Read, W: Write>(
 {
     let walk = tasks_of(alloc, stage)?;
     let mut stored = none_stored(alloc, stage)?;
-    let mut foreign = Vec::new(alloc);
+    let mut unexpected = Vec::new(alloc);
     note_keys(
         alloc,
         stage.target,
         &mut stored,
-        &mut foreign,
+        &mut unexpected,
         lines,
         reader,
     )?;
@@ -131,7 +131,7 @@ fn write_missing<R: Read, W: Write>(
         Some(&stored),
         sink,
     )?;
-    send_text(Ok(foreign), sink)
+    send_text(Ok(unexpected), sink)
 }
 
 /// Returns marks for the chunks that a stage writes: no chunk is known to be stored.
@@ -153,7 +153,7 @@ fn none_stored(alloc: Global, stage: &Stage<'_>) -> Result<StoredChunks, RunFaul
     let (source, target) = (stage.source, stage.target);
     let moved = moved_box(alloc, &source.grid, &target.grid, &stage.region, &stage.at)?;
     moved.is_a_box();
-    let into = expect_answer(parts(alloc, &target.grid, &target.encoding, &moved))?;
+    let into = found_or_out_of_memory(parts(alloc, &target.grid, &target.encoding, &moved))?;
     match into.none_stored(alloc)? {
         Some(stored) => Ok(stored),
         None => Err(RunFault::TooManyForKeys),

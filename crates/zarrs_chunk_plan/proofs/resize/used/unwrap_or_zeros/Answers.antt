@@ -4,7 +4,7 @@ use Rattle.zarrs_chunk_axes.specs.InBounds.{AreBelow}
 use Rattle.zarrs_chunk_plan.specs.Strided.{has_zero}
 use Rattle.zarrs_chunk_plan.proofs.BoxCover.{none_below_zero}
 use Rattle.zarrs_chunk_plan.proofs.StridedForms.{zero_tells}
-use Rattle.zarrs_chunk_plan.proofs.resize.used.or_zeros.Goals as goal
+use Rattle.zarrs_chunk_plan.proofs.resize.used.unwrap_or_zeros.Goals as goal
 
 none_below_zeros : (n : ℕ) (list : List ℕ) → 0 < n → ¬ AreBelow (replicate n 0) list
 none_below_zeros zero list some below = absurd (omega arith)

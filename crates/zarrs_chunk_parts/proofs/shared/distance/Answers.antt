@@ -1,6 +1,6 @@
 use Rattle.std.proofs.Common.{arith}
 use Rattle.zarrs_chunk_parts.proofs.InPlace.{are_distances}
-use Rattle.zarrs_chunk_parts.proofs.shared.steps_to.Goals as goal
+use Rattle.zarrs_chunk_parts.proofs.shared.distance.Goals as goal
 
 pub returns : goal.returns
 returns c =

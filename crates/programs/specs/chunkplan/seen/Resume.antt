@@ -4,7 +4,7 @@ use Rattle.programs.specs.chunkplan.Common.{ℕ, Bool, true, false, Contains, If
 use Rattle.programs.specs.chunkplan.Common.{counted, before_share, share_of, Part, Share, TaskPlan, RunFault, KeyNotText, Memory, Read}
 use Rattle.zarrs_chunk_plan.specs.declared.copy.stored_chunks.StoredChunks.{StoredChunks}
 use Rattle.zarrs_chunk_plan.specs.seen.StoredChunks.{Knows, has_mark}
-use Rattle.programs.specs.chunkplan.Keys.{AreForeign, IsFirstNoText, foreign_lines}
+use Rattle.programs.specs.chunkplan.Keys.{AreUnexpected, IsFirstNoText, unexpected_lines}
 use Rattle.programs.specs.chunkplan.Line.{lines_from, task_line}
 
 -- whether a chunk is stored, and would be written whole; and whether all chunks of some parts are such
@@ -41,9 +41,9 @@ pub record HaveNoted (target : List Dimension) (IsKeyOf : List ℕ → List ℕ 
     (text : List ℕ) : Type 0 where
   pub marked : HaveMarked target IsKeyOf targets keys stored
   pub are_texts : (key : List ℕ) → Contains keys key → IsUtf8 key
-  pub foreign : List (List ℕ)
-  pub are_foreign : AreForeign target IsKeyOf keys foreign
-  pub text_is : text ≡ foreign_lines foreign
+  pub unexpected : List (List ℕ)
+  pub are_unexpected : AreUnexpected target IsKeyOf keys unexpected
+  pub text_is : text ≡ unexpected_lines unexpected
 
 -- these keys, and behind them the one in a line, if that isn't empty
 abbrev pub with_line : List (List ℕ) → (line : List ℕ) → List (List ℕ)
