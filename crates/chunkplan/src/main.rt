@@ -29,7 +29,7 @@
 //!
 //! with "counts":true
 //!
-//! {"copies":2,"elements":3,"largest_line":1,"lines":2,"source_chunks":2}
+//! {"chunks_read":2,"elements_moved":3}
 //! ```
 //!
 //! With no words it is `run_to_status` of `programs::chunkplan`, over what the process was given; words, which `read_words` reads, are answered by `answer_words`.

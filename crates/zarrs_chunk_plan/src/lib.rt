@@ -45,7 +45,7 @@ pub use copy::moved::shifted_box;
 pub use copy::region::moved_box;
 pub use copy::region_error::RegionError;
 pub use copy::stored_chunks::StoredChunks;
-pub use counts::of_plans::{Counts, counts_of_read};
+pub use counts::{ReadCounts, counts_of_read};
 pub use read::clipping::clip;
 pub use read::numbered_parts::{SomeParts, some_parts};
 pub use read::plan::parts;

@@ -49,7 +49,7 @@ pub use home::Home;
 pub use location::{Located, locate};
 pub use walks::chunk_indices::ChunkIndices;
 pub use walks::chunk_indices_and_subsets::ChunkIndicesAndSubsets;
-pub use walks::chunk_indices_in_selection::ChunkIndicesInSubset;
+pub use walks::chunk_indices_in_subset::ChunkIndicesInSubset;
 pub use walks::chunk_subsets::ChunkSubsets;
 pub use zarrs_chunk_axes::ArrayIndicesTinyVec;
 pub use zarrs_chunk_runs::Comparisons;

@@ -2,5 +2,5 @@
 mod chunk_boxes;
 pub(crate) mod chunk_indices;
 pub(crate) mod chunk_indices_and_subsets;
-pub(crate) mod chunk_indices_in_selection;
+pub(crate) mod chunk_indices_in_subset;
 pub(crate) mod chunk_subsets;

@@ -47,7 +47,7 @@ pub use Rattle.zarrs_chunk_plan.specs.Resize.{AreResized, IsUsed}
 pub use Rattle.zarrs_chunk_plan.specs.Shares.{before_share, share_of}
 pub use Rattle.zarrs_chunk_plan.specs.declared.bytes.ranges.MemoryOrder.{MemoryOrder}
 pub use Rattle.zarrs_chunk_plan.specs.declared.copy.region_error.RegionError.{RegionError}
-pub use Rattle.zarrs_chunk_plan.specs.declared.counts.of_plans.Counts.{Counts}
+pub use Rattle.zarrs_chunk_plan.specs.declared.counts.ReadCounts.{ReadCounts}
 pub use Rattle.zarrs_chunk_plan.specs.declared.resize.plan.ChunkChange.{ChunkChange}
 pub use Rattle.zarrs_chunk_plan.specs.declared.shares.share.Share.{Share}
 pub use Rattle.zarrs_chunk_questions.specs.Order.{order_in, order_text}

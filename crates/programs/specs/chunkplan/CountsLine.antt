@@ -1,35 +1,19 @@
--- The counts of a plan: an object, and the line of it; and the line of the counts of all stages of a copy by tasks.
+-- The line of the counts of a read, and the line of the counts of all stages of a copy by tasks.
 -- Source: RFC 8259; the members, in the order of their names, are this program's own.
 use Rattle.std.specs.Prelude.{◌≡◌, ◌++◌, ◌∷◌}
-use Rattle.programs.specs.chunkplan.Common.{ℕ, Bool, true, false, List, [], Option, Some, None, Vec, codes, Global, print, json_tokens, IsNumeral}
-use Rattle.programs.specs.chunkplan.Common.{product, Counts, CountsAlong, in_all}
+use Rattle.programs.specs.chunkplan.Common.{ℕ, Bool, true, false, List, [], Option, Some, None, codes, print, json_tokens, IsNumeral}
+use Rattle.programs.specs.chunkplan.Common.{product, ReadCounts, CountsAlong, in_all}
 use Rattle.std.specs.List.{AllZip, flat_map}
 use Rattle.programs.specs.chunkplan.Line.{numbers_json}
 use Rattle.programs.specs.chunkplan.Stages.{AreStageCounts, Stage, Stages}
 
--- a count as text: the numeral of the product of its factors, and `null` where it isn't counted
-abbrev pub IsCount : Option (Vec ℕ Global) → List ℕ → Type 0
-IsCount (Some factors) text = IsNumeral (product factors.items) text
-IsCount None text = text ≡ codes "null"
-
--- an object with a member for each count
-pub record IsCountsObject (counts : Counts) (object : List ℕ) : Type 0 where
-  pub copies : List ℕ
-  pub elements : List ℕ
-  pub largest_line : List ℕ
-  pub lines : List ℕ
-  pub source_chunks : List ℕ
-  pub is_copies : IsCount counts.copies copies
-  pub is_elements : IsNumeral (product counts.elements.items) elements
-  pub is_largest_line : IsCount counts.largest_line largest_line
-  pub is_lines : IsNumeral (product counts.lines.items) lines
-  pub is_source_chunks : IsNumeral (product counts.source_chunks.items) source_chunks
-  pub is : object ≡ codes "{\"copies\":" ++ copies ++ codes ",\"elements\":" ++ elements ++ codes ",\"largest_line\":" ++ largest_line
-      ++ codes ",\"lines\":" ++ lines ++ codes ",\"source_chunks\":" ++ source_chunks ++ codes "}"
-
--- the line of that object
-abbrev pub IsCountsLine : Counts → List ℕ → Type 0
-IsCountsLine counts line = (object : List ℕ) × IsCountsObject counts object × (line ≡ object ++ codes "\n")
+-- the line of the counts of a read
+pub record IsCountsLine (counts : ReadCounts) (line : List ℕ) : Type 0 where
+  pub chunks_read : List ℕ
+  pub elements_moved : List ℕ
+  pub is_chunks_read : IsNumeral (product counts.chunks_read.items) chunks_read
+  pub is_elements_moved : IsNumeral (product counts.elements_moved.items) elements_moved
+  pub is : line ≡ codes "{\"chunks_read\":" ++ chunks_read ++ codes ",\"elements_moved\":" ++ elements_moved ++ codes "}\n"
 
 -- ---- stages
 

@@ -2,7 +2,7 @@
 use Rattle.std.specs.Prelude.{◌≡◌, ◌≢◌, ◌⊎◌}
 use Rattle.programs.specs.chunkplan.Common.{ℕ, Bool, true, false, List, length, Option, Result, Ok, Err, replicate}
 use Rattle.programs.specs.chunkplan.Common.{unwrap_or, Box, IsEmptyBox, lasts, Dimension, IsKey, IsGrid, IsGridFault, AreElementsOf, AreReadCounts}
-use Rattle.programs.specs.chunkplan.Common.{array_box, Counts, Part, ChunkChange, Share, TaskPlan, made_of, then}
+use Rattle.programs.specs.chunkplan.Common.{array_box, ReadCounts, Part, ChunkChange, Share, TaskPlan, made_of, then}
 use Rattle.programs.specs.chunkplan.Common.{told, Stored, array_of, RunFault, ChunksDimensionality}
 use Rattle.programs.specs.chunkplan.Common.{KeysOfLongDocument, NotJson, ResizedGrid, SubsetDimensionality, Uncovered}
 use Rattle.zarrs_chunk_base.specs.Grid.{Grid}
@@ -55,7 +55,7 @@ IsAsked true ds b asked = IsClipped ds b asked
 -- what is written of the plan of a read: the lines of a share, or the line of its counts
 abbrev pub IsReadText : Wanted → Option RangesWanted → Box → List Part → List ℕ → Type 0
 IsReadText (lines_wanted share) ranges asked parts text = text ≡ read_lines ranges share parts
-IsReadText counts_wanted ranges asked parts text = (counts : Counts) × AreReadCounts asked parts counts × IsCountsLine counts text
+IsReadText counts_wanted ranges asked parts text = (counts : ReadCounts) × AreReadCounts asked parts counts × IsCountsLine counts text
 
 -- so of a box as it is, or why there is no plan of it; and of one that may be clipped
 abbrev pub asked_text : Wanted → Option RangesWanted → Array → Box → Result (List ℕ) RunFault → Type 0

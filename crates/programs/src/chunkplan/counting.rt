@@ -1,7 +1,7 @@
-//! The counts of a plan, and the counts of all stages of a copy by tasks, as one line.
+//! The counts of a read, and the counts of all stages of a copy by tasks, as one line.
 ghost use Rattle.std.specs.Prelude.{◌≡◌, ◌++◌, ◌⊎◌};
 ghost use Rattle.programs.specs.chunkplan.Common.{ℕ, IfOk, List, MatchResult, Memory, OnOk, map, option_map, print, json_tokens, IsNumeral, in_all, product};
-ghost use Rattle.programs.specs.chunkplan.CountsLine.{IsCount, IsCountedStage, IsCountsLine, IsCountsObject, IsStageObject, IsStagesLine, flag_text, shape_text};
+ghost use Rattle.programs.specs.chunkplan.CountsLine.{IsCountedStage, IsCountsLine, IsStageObject, IsStagesLine, flag_text, shape_text};
 ghost use Rattle.programs.specs.chunkplan.Line.{numbers_json};
 ghost use Rattle.programs.specs.chunkplan.Stages.{AreStageCounts, IsCountFault, IsFaultOfSome};
 ghost use Rattle.zarrs_chunk_tasks.specs.Counts.{count_along};
@@ -15,8 +15,7 @@ use crate::chunkplan::route::Stage;
 use crate::chunkplan::stages::numbers_of;
 use json::Writer;
 use std::alloc::{AllocError, Global};
-use zarrs_chunk_base::ArrayShape;
-use zarrs_chunk_plan::Counts;
+use zarrs_chunk_plan::ReadCounts;
 use zarrs_chunk_tasks::{Count, CountsAlong, can_count, task_counts_by};
 
 /// How many bytes the line is given room for at first.
@@ -28,57 +27,23 @@ const STAGES_LEN: usize = 640;
 /// How many bytes a shape is given room for at first.
 const SHAPE_LEN: usize = 64;
 
-/// The line of a plan's counts.
+/// The line of the counts of a read.
 ///
 /// # Errors
 /// Out of memory.
-pub(crate) fn counts_line(alloc: Global, counts: &Counts) -> Result<Vec<u8>, AllocError>
+pub(crate) fn counts_line(alloc: Global, counts: &ReadCounts) -> Result<Vec<u8>, AllocError>
     ensures { IfOk result (λ line. IsCountsLine counts.now line.items) }
 {
     let mut line = Vec::with_capacity(alloc, LINE_LEN)?;
-    append_counts(alloc, &mut line, counts)?;
-    line.push(b'\n')?;
+    append_product(alloc, &mut line, b"{\"chunks_read\":", &counts.chunks_read)?;
+    append_product(
+        alloc,
+        &mut line,
+        b",\"elements_moved\":",
+        &counts.elements_moved,
+    )?;
+    line.extend_from_slice(b"}\n")?;
     Ok(line)
-}
-
-/// Appends the object of a plan's counts.
-///
-/// # Errors
-/// Out of memory.
-fn append_counts(alloc: Global, line: &mut Vec<u8>, counts: &Counts) -> Result<(), AllocError>
-    ensures { OnOk result ((object : List ℕ) × IsCountsObject counts.now object
-        × (line.new.items ≡ line.old.items ++ object)) }
-{
-    append_count(alloc, line, b"{\"copies\":", &counts.copies)?;
-    append_product(alloc, line, b",\"elements\":", &counts.elements)?;
-    append_count(alloc, line, b",\"largest_line\":", &counts.largest_line)?;
-    append_product(alloc, line, b",\"lines\":", &counts.lines)?;
-    append_product(alloc, line, b",\"source_chunks\":", &counts.source_chunks)?;
-    line.extend_from_slice(b"}")?;
-    Ok(())
-}
-
-/// Appends a text, and then a product, or `null` where there are no factors.
-///
-/// # Errors
-/// Out of memory.
-fn append_count(
-    alloc: Global,
-    line: &mut Vec<u8>,
-    before: &[u8],
-    factors: &Option<ArrayShape>,
-) -> Result<(), AllocError>
-    ensures { OnOk result ((text : List ℕ) × IsCount factors.now text
-        × (line.new.items ≡ line.old.items ++ (before.now ++ text))) }
-{
-    match factors {
-        Some(factors) => append_product(alloc, line, before, factors),
-        None => {
-            line.extend_from_slice(before)?;
-            line.extend_from_slice(b"null")?;
-            Ok(())
-        }
-    }
 }
 
 /// Appends a text, and then the digits of a product.

@@ -25,7 +25,7 @@ use std::io::Write;
 use streams::Sink;
 use zarrs_chunk_base::{ArraySubset, IncompatibleDimensionalityError, Refusal};
 use zarrs_chunk_plan::laws::all_fit;
-use zarrs_chunk_plan::{Counts, Share, changes, counts_of_read, parts, whole_array};
+use zarrs_chunk_plan::{ReadCounts, Share, changes, counts_of_read, parts, whole_array};
 use zarrs_chunks::{ChunkGrid, ChunkGridTraits};
 
 /// Sends the plan that a document asks for, line by line.
@@ -250,7 +250,7 @@ fn write_counts_of<W: Write>(
 /// Sends the line of a plan's counts.
 fn write_counts<W: Write>(
     alloc: Global,
-    counts: &Counts,
+    counts: &ReadCounts,
     sink: &mut Sink<W>,
 ) -> Result<(), RunFault>
     ensures { StepLeaves (IsCountsLine counts.now) (λ _. ⊥) result

@@ -7,7 +7,7 @@ use Rattle.zarrs_chunk_axes.specs.seen.RowMajorWalk.{lists_left, numbers_at, sha
 use Rattle.zarrs_chunks.specs.declared.walks.chunk_boxes.ChunkBoxes.{ChunkBoxes}
 use Rattle.zarrs_chunks.specs.declared.walks.chunk_indices.ChunkIndices.{ChunkIndices}
 use Rattle.zarrs_chunks.specs.declared.walks.chunk_indices_and_subsets.ChunkIndicesAndSubsets.{ChunkIndicesAndSubsets}
-use Rattle.zarrs_chunks.specs.declared.walks.chunk_indices_in_selection.ChunkIndicesInSubset.{ChunkIndicesInSubset}
+use Rattle.zarrs_chunks.specs.declared.walks.chunk_indices_in_subset.ChunkIndicesInSubset.{ChunkIndicesInSubset}
 use Rattle.zarrs_chunks.specs.declared.walks.chunk_subsets.ChunkSubsets.{ChunkSubsets}
 use Rattle.zarrs_chunks.specs.Walks.{box_at, boxed, counted_from}
 

@@ -1,7 +1,17 @@
 use Rattle.std.proofs.Common.{◌∙◌, ◌++◌, ap, codes}
+use Rattle.programs.proofs.chunkplan.Appended.{more, named}
 use Rattle.programs.proofs.chunkplan.counting.counts_line.Goals as goal
 
 pub returns : goal.returns
 returns c =
-    let (object, is, appended) = c.in_ok-append_counts.ensures in
-    (object, is, c.in_ok-push.ensures.items ∙ ap (λ l. l ++ codes "\n") (appended ∙ ap (λ l. l ++ object) c.in_ok-line.ensures.items))
+    let old = c.in_ok-line.line.items in
+    let (chunks, are_chunks, l1) = c.in_ok-append_product.ensures in
+    let (elements, are_elements, l2) = c.in_ok-append_product-2.ensures in
+    record {
+      chunks_read = chunks;
+      elements_moved = elements;
+      is_chunks_read = rw c.deref.ensures.value at are_chunks;
+      is_elements_moved = rw c.deref-2.ensures.value at are_elements;
+      is = more old _ _ _ (codes "}\n") c.in_ok-extend_from_slice.ensures.items (named old _ _ _ (codes ",\"elements_moved\":") elements l2 l1)
+          ∙ ap (λ l. l ++ _) c.in_ok-line.ensures.items;
+    }

@@ -3,7 +3,7 @@ use Rattle.zarrs_chunk_axes.specs.InBounds.{AreBelow}
 use Rattle.zarrs_chunk_axes.specs.seen.RowMajorWalk.{IsAtList, Stands, lists_from, lists_left, numbers_at, shape_of}
 use Rattle.zarrs_chunks.specs.Walks.{counted_from}
 use Rattle.zarrs_chunks.proofs.ChunksInBoxes.{are_counted, length_below, sums_fit, written}
-use Rattle.zarrs_chunks.proofs.walks.chunk_indices_in_selection.ChunkIndicesInSubsetIterator.next.Goals as goal
+use Rattle.zarrs_chunks.proofs.walks.chunk_indices_in_subset.ChunkIndicesInSubsetIterator.next.Goals as goal
 
 -- the first of what was left, counted from the start, and the others
 gives_first : (start : List ℕ) (left rest others : List (List ℕ)) (numbers new : List ℕ) → left ≡ numbers ∷ rest → others ≡ rest
