@@ -1,8 +1,7 @@
 -- The cheaper ones of one stage and two are the cheapest stages.
-use Rattle.std.proofs.Common.{◌≡◌, ◌∙◌, ℕ, zero, suc, ◌<◌, ◌≤◌, ◌&&◌, IsTrue, List, [], ◌∷◌, Vec, Global, Bool, true, IfSome, MatchOption, Option, None, Some, length, map, refl, ap, subst, arith, ⊎_elim, Contains}
-use Rattle.std.proofs.lemmas.List.{length-map}
+use Rattle.std.proofs.Common.{◌≡◌, ◌∙◌, ℕ, ◌<◌, ◌≤◌, ◌&&◌, IsTrue, List, [], ◌∷◌, Vec, Global, Bool, true, IfSome, MatchOption, Option, None, Some, map, refl, ap, subst, arith, ⊎_elim, Contains}
 use Rattle.std.specs.Int.NonZero.{non_zero_u64_get}
-use Rattle.std.specs.List.{AllByRecursion, AllZip}
+use Rattle.std.specs.List.{AllZip}
 use Rattle.std.specs.declared.num.NonZeroU64.{NonZeroU64}
 use Rattle.zarrs_chunk_axes.specs.EqualEdges.{AreEqualEdges}
 use Rattle.zarrs_chunk_base.specs.ArraySubset.{Box}
@@ -18,17 +17,10 @@ use Rattle.zarrs_chunk_tasks.specs.declared.task.Task.{Task}
 use Rattle.zarrs_chunk_tasks.specs.seen.Between.{AreBy, AreChosen, IsCompared, IsOneOf, NoneIsBelow, best_cost, cost_of_both}
 use Rattle.zarrs_chunk_tasks.specs.seen.Choices.{rows_of}
 use Rattle.zarrs_chunk_tasks.specs.seen.Stages.{IsOfOne, IsOfTwo, IsTheCheaper}
-use Rattle.zarrs_chunk_tasks.specs.seen.TriedEdges.{edges_in, rows_of_edges}
+use Rattle.zarrs_chunk_tasks.specs.seen.TriedEdges.{rows_of_edges}
 use Rattle.zarrs_chunk_tasks.proofs.OneGrid.{one_grid}
-use Rattle.zarrs_chunk_tasks.proofs.TwoStages.{SomeInEach, both_true, exact_at_least, lower_bound, none_below, none_fits}
-
--- an edge, as a number, is one of a row
-edge_of_number : (row : List NonZeroU64) (edge : ℕ) → Contains (edges_in row) edge → (e : NonZeroU64) × Contains row e × (non_zero_u64_get e ≡ edge)
-edge_of_number [] edge (k, within, is) = absurd (omega arith)
-edge_of_number (e ∷ row) edge (zero, within, is) = (e, (0, omega arith, refl), is)
-edge_of_number (e ∷ row) edge (suc k, within, is) =
-    let (f, (j, below, at), same) = edge_of_number row edge (k, omega arith, is) in
-    (f, (suc j, omega arith, at), same)
+use Rattle.zarrs_chunk_tasks.proofs.TriedEdges.{edge_of_number, number_of_edge}
+use Rattle.zarrs_chunk_tasks.proofs.TwoStages.{both_true, exact_at_least, lower_bound, none_below, none_fits}
 
 -- so is a shape one of rows of them
 shape_of_numbers : (rows : List (Vec NonZeroU64 Global)) (shape : List ℕ) → AllZip Contains (rows_of_edges rows) shape
@@ -41,17 +33,10 @@ shape_of_numbers (row ∷ rows) (edge ∷ shape) is =
 shape_of_numbers [] (_ ∷ _) is = absurd is
 shape_of_numbers (_ ∷ _) [] is = absurd is
 
--- and the other way round
-numbers_in : (row : List NonZeroU64) (edge : NonZeroU64) → Contains row edge → Contains (edges_in row) (non_zero_u64_get edge)
-numbers_in [] edge (k, within, is) = absurd (omega arith)
-numbers_in (e ∷ row) edge (zero, within, is) = (0, omega arith, ap non_zero_u64_get is)
-numbers_in (e ∷ row) edge (suc k, within, is) =
-    let (j, below, at) = numbers_in row edge (k, omega arith, is) in (suc j, omega arith, at)
-
 pub numbers_of_shape : (rows : List (Vec NonZeroU64 Global)) (shape : List NonZeroU64) → IsOneOf (rows_of rows) shape
     → AllZip Contains (rows_of_edges rows) (map non_zero_u64_get shape)
 numbers_of_shape [] [] is = tt
-numbers_of_shape (row ∷ rows) (edge ∷ shape) is = (numbers_in row.items edge is.0, numbers_of_shape rows shape is.1)
+numbers_of_shape (row ∷ rows) (edge ∷ shape) is = (number_of_edge row.items edge is.0, numbers_of_shape rows shape is.1)
 numbers_of_shape [] (_ ∷ _) is = absurd is
 numbers_of_shape (_ ∷ _) [] is = absurd is
 
@@ -178,12 +163,6 @@ module _ (source target : List Dimension) (region : Box) (at : List ℕ) (most w
         by_cases (Some tasks) some None no_two None is = absurd is
         by_cases None none (Some two) some None is = absurd is
         by_cases (Some tasks) is_one (Some two) some None is = absurd is
-
--- ---- rows of edges
-
-pub some_edges : (rows : List (Vec NonZeroU64 Global)) → AllByRecursion (λ (row : List ℕ). 0 < length row) (rows_of_edges rows) → SomeInEach (rows_of rows)
-some_edges [] some = tt
-some_edges (row ∷ rows) some = (omega (arith, some.0, length-map row.items non_zero_u64_get), some_edges rows some.1)
 
 -- ---- no elements
 

@@ -23,6 +23,7 @@ use Rattle.zarrs_chunk_tasks.specs.seen.Choices.{FindsCheapest, IsCheapestChoice
 use Rattle.zarrs_chunk_tasks.specs.seen.Sizes.{AreSizes, AreTried, Side, all_counts, each_of, sides}
 use Rattle.zarrs_chunk_tasks.proofs.GroupBoxes.{numbers, some_chunks}
 use Rattle.zarrs_chunk_tasks.proofs.LeastCost.{HasCounts, all_fit, better, chosen_sizes, each_fits, has_counts, shortest, sum_of_costs, times}
+use Rattle.zarrs_chunk_tasks.proofs.TriedSizes.{are_tried}
 use Rattle.zarrs_chunk_tasks.proofs.SideCounts.{group_counts}
 use Rattle.zarrs_chunk_tasks.proofs.TaskCounts.{counts_by_target}
 use Rattle.zarrs_chunk_tasks.proofs.TaskLaws.{as_many_dimensions, region_starts}
@@ -105,8 +106,12 @@ module _ (source target : List Dimension) (region : Box) (at : List ℕ) (can : 
 
   -- ---- the choice
 
-  module _ (rows : List (List Size)) (all_many : length all ≡ length target) (tried : AllZip AreTried all rows) (room worth largest most : ℕ)
+  module _ (is_exact : Bool) (rows : List (List Size)) (all_many : length all ≡ length target) (are_sizes : AllZip (AreSizes is_exact) all rows)
+      (room worth largest most : ℕ)
       (fits_room : (n : ℕ) → 0 < n → (n ≤ room) ↔ (n + largest ≤ most)) where
+    abbrev tried : AllZip AreTried all rows
+    tried = are_tried is_exact all rows are_sizes
+
     sizes_of : (choice : List Size) → IsChoice rows choice → HasCounts all choice
     sizes_of choice chosen = has_counts all choice (chosen_sizes all rows choice tried chosen)
 
@@ -122,8 +127,7 @@ module _ (source target : List Dimension) (region : Box) (at : List ℕ) (can : 
 
     module _ (found : Choice) (chosen : CheapestTasks) (it : IsCheapestChoice rows room worth 1 1 None (map non_zero_u64_get found.each.items) found.cost)
         (each_is : chosen.task_chunks.items ≡ reverse found.each.items) (cost_is : chosen.cost ≡ found.cost)
-        (exact : IsTrue chosen.is_exact
-        → AllZip AreSizes all rows × AllByRecursion (λ (side : Side). side.high < most_sizes) all) where
+        (exact : IsTrue chosen.is_exact → IsTrue is_exact) where
       abbrev each_chosen : List NonZeroU64
       each_chosen = chosen.task_chunks.items
 
@@ -156,10 +160,9 @@ module _ (source target : List Dimension) (region : Box) (at : List ℕ) (can : 
           ∙ ap (λ numbers. cost_by worth (all_counts all numbers)) (sym numbers_are)) ∙ min_comm _ _
 
       none_cheaper : IsTrue chosen.is_exact → NoneIsCheaper source target region at largest most worth chosen.cost
-      none_cheaper is_exact each many tasks are fit =
-          let (rows_are, few) = exact is_exact in
+      none_cheaper told each many tasks are fit =
           let along = all_counts all (numbers each) in
-          let best = better all rows (numbers each) rows_are few (some_chunks each) (length-map each non_zero_u64_get ∙ many ∙ same_many ∙ sym all_many) in
+          let best = better is_exact all rows (numbers each) (exact told) are_sizes (some_chunks each) (length-map each non_zero_u64_get ∙ many ∙ same_many ∙ sym all_many) in
           let any = (sizes_of best.choice best.is_choice).some in
           let longest = longest_by along in
           let some_longest : 0 < longest = omega (arith, any, best.short) in
@@ -197,18 +200,16 @@ module _ (source target : List Dimension) (region : Box) (at : List ℕ) (can : 
       }
 
     -- what is found of the rows is what is chosen
-    pub choice_is : (found : Option Choice) (chosen : Option CheapestTasks) (tried_all : Bool) → FindsCheapest rows room worth 1 1 None found
+    pub choice_is : (found : Option Choice) (chosen : Option CheapestTasks) → FindsCheapest rows room worth 1 1 None found
         → (found ≡ None → chosen ≡ None)
         → IfSome found (λ choice. MatchOption chosen ⊥ (λ (cheapest : CheapestTasks).
         (cheapest.task_chunks.items ≡ reverse choice.each.items) × (cheapest.cost ≡ choice.cost)
-        × (cheapest.is_exact ≡ tried_all)))
-        → (IsTrue tried_all → AllZip AreSizes all rows × AllByRecursion (λ (side : Side). side.high < most_sizes) all)
+        × (cheapest.is_exact ≡ is_exact)))
         → MatchOption chosen (NoneFits source target region at largest most) (IsChosen source target region at largest most worth)
-    choice_is None None tried_all finds none put exact = none_fits (λ choice chosen fits. finds choice chosen fits tt)
-    choice_is None (Some chosen) tried_all finds none put exact = absurd (is_some (none refl))
-    choice_is (Some found) None tried_all finds none put exact = absurd put
-    choice_is (Some found) (Some chosen) tried_all finds none (each_is, cost_is, is_exact) exact =
-        chosen_is found chosen finds each_is cost_is (λ told. exact (subst IsTrue is_exact told))
+    choice_is None None finds none put = none_fits (λ choice chosen fits. finds choice chosen fits tt)
+    choice_is None (Some chosen) finds none put = absurd (is_some (none refl))
+    choice_is (Some found) None finds none put = absurd put
+    choice_is (Some found) (Some chosen) finds none (each_is, cost_is, same) = chosen_is found chosen finds each_is cost_is (λ told. subst IsTrue same told)
 
 -- a buffer fits in the room if it does so together with the larger chunk
 pub fits_in_room : (most read written read_told written_told room : ℕ) → most ≤ greatest → read_told ≡ min greatest read → written_told ≡ min greatest written

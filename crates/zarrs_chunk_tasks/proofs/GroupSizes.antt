@@ -1,5 +1,5 @@
 -- What groups of each number of chunks cost along one dimension.
-use Rattle.std.proofs.Common.{◌≡◌, ◌∙◌, ℕ, zero, suc, ◌+◌, ◌-◌, ◌*◌, ◌/◌, ◌<◌, ◌≤◌, List, [], ◌∷◌, ◌++◌, Contains, length, map, max, min, refl, ap, ap₂}
+use Rattle.std.proofs.Common.{◌≡◌, IsTrue, Bool, ◌∙◌, ℕ, zero, suc, ◌+◌, ◌-◌, ◌*◌, ◌/◌, ◌<◌, ◌≤◌, List, [], ◌∷◌, ◌++◌, Contains, length, map, max, min, refl, ap, ap₂}
 use Rattle.std.proofs.Common.{subst, sym, ⊎_elim, arith, le-div_iff_mul-le}
 use Rattle.std.proofs.Math.Nat.{div-eq_of_lt, div-le_self, div-mul-le_self, lt-div-mul-add, mul-le-mul_right}
 use Rattle.std.proofs.lemmas.Bool.{cases_lt}
@@ -15,7 +15,6 @@ use Rattle.zarrs_chunk_tasks.specs.declared.groups_along.Sums.{Sums}
 use Rattle.zarrs_chunk_tasks.specs.declared.sizes.Size.{Size}
 use Rattle.zarrs_chunk_tasks.specs.seen.Counts.{AreOver, AreSums, AreTaking, indices, of_group, whole}
 use Rattle.zarrs_chunk_tasks.specs.seen.Grouped.{grouped}
-use Rattle.zarrs_chunk_tasks.specs.Cheapest.{most_sizes}
 use Rattle.zarrs_chunk_tasks.specs.seen.Sizes.{AreSizes, AreSizesTo, Beats, IsBeaten, IsSize, Keeps, Side, StartsWithLeast, by_groups, each_of, groups_met, largest_by}
 use Rattle.zarrs_chunk_tasks.proofs.CountsOfEach.{Count}
 use Rattle.zarrs_chunk_tasks.proofs.GroupBoxes.{first_in, last_in, reaching}
@@ -262,15 +261,15 @@ module _ (side : Side) where
           }) (λ (_, (one, (j, within, _), _)). absurd (omega arith)) keeps
       first none (s ∷ before) few keeps = absurd (omega arith)
 
-    -- from those up to a number follow all, where the chunks are no more
-    pub all_sizes : (most : ℕ) (sizes : List Size) → most ≡ min (side.high + 1) most_sizes → AreSizesTo side most sizes → AreSizes side sizes
-    all_sizes most sizes most_is to = record {
-      are = to.are;
-      least = to.least (omega (arith, most_is));
-      few = λ few. omega (arith, to.few, most_is);
-      all = λ few k some.
+    -- from those up to a number follow all, if the number is that of all chunks
+    pub all_sizes : (are_all : Bool) (last : ℕ) (sizes : List Size) → (IsTrue are_all → last ≡ side.high) → AreSizesTo side (last + 1) sizes
+        → AreSizes are_all side sizes
+    all_sizes are_all last sizes is_last to = record {
+      tried = record { are = to.are; least = to.least (omega arith) };
+      all = λ all k some.
+          let high = is_last all in
           ⊎_elim (λ (more : side.high + 1 < k).
-          let (s, among, beats) = to.all (side.high + 1) (omega arith) (omega (arith, most_is)) in (
+          let (s, among, beats) = to.all (side.high + 1) (omega arith) (omega (arith, high)) in (
             s,
             among,
             record {
@@ -279,14 +278,12 @@ module _ (side : Side) where
               elements = omega (arith, beats.elements, ap sum (beyond side chain over whole k (omega arith)));
             },
           ))
-          (λ (le : k ≤ side.high + 1). to.all k some (omega (arith, most_is))) (cases_lt (side.high + 1) k);
+          (λ (le : k ≤ side.high + 1). to.all k some (omega (arith, high))) (cases_lt (side.high + 1) k);
     }
 
-    pub one_more : (before after : List Size) (size : Size) → AreSizes side before → IsSize side size → Keeps before size after → most_sizes ≤ side.high
-        → AreSizes side after
-    one_more before after size so_far is keeps many = record {
-      are = all_kept before after size so_far.are is keeps;
-      least = least_kept before after size so_far.least keeps;
-      few = λ few. absurd (omega arith);
-      all = λ few. absurd (omega arith);
+    pub one_more : (are_all : Bool) (before after : List Size) (size : Size) → AreSizes are_all side before → IsSize side size → Keeps before size after
+        → (¬ IsTrue are_all) → AreSizes are_all side after
+    one_more are_all before after size so_far is keeps not = record {
+      tried = record { are = all_kept before after size so_far.tried.are is keeps; least = least_kept before after size so_far.tried.least keeps };
+      all = λ all. absurd (not all);
     }

@@ -1,12 +1,11 @@
 -- The cheapest choice of one size a dimension gives the cheapest tasks.
-use Rattle.std.proofs.Common.{◌≡◌, ℕ, zero, suc, ◌+◌, ◌*◌, ◌<◌, ◌≤◌, List, [], ◌∷◌, Contains, length, map, max, refl, ap, ap₂, sym, arith, subst, ⊎_elim}
+use Rattle.std.proofs.Common.{◌≡◌, Bool, IsTrue, ℕ, zero, suc, ◌+◌, ◌*◌, ◌<◌, ◌≤◌, List, [], ◌∷◌, Contains, length, map, max, refl, ap, ap₂, sym, arith, subst, ⊎_elim}
 use Rattle.std.proofs.lemmas.List.Sums.{sum_by-cons}
 use Rattle.std.proofs.Math.Nat.{add-mul}
 use Rattle.std.specs.List.{AllByRecursion, AllZip, sum}
 use Rattle.std.proofs.lemmas.Bool.{cases_lt}
 use Rattle.zarrs_chunk_plan.specs.Counts.{product}
 use Rattle.zarrs_chunk_plan.proofs.Products.{greatest_from, greatest_of}
-use Rattle.zarrs_chunk_tasks.specs.Cheapest.{most_sizes}
 use Rattle.zarrs_chunk_tasks.specs.Counts.{in_all}
 use Rattle.zarrs_chunk_tasks.specs.declared.counts.CountsAlong.{CountsAlong}
 use Rattle.zarrs_chunk_tasks.specs.declared.sizes.Size.{Size}
@@ -108,13 +107,13 @@ pub record IsBetter (all : List Side) (rows : List (List Size)) (each : List ℕ
   pub reads : chunks_of choice ≤ chunks (all_counts all each)
   pub decodes : elements_of choice ≤ elements (all_counts all each)
 
-pub better : (all : List Side) (rows : List (List Size)) (each : List ℕ) → AllZip AreSizes all rows → AllByRecursion (λ (side : Side). side.high < most_sizes) all
+pub better : (are_all : Bool) (all : List Side) (rows : List (List Size)) (each : List ℕ) → IsTrue are_all → AllZip (AreSizes are_all) all rows
     → AllByRecursion (λ k. 0 < k) each → length each ≡ length all → IsBetter all rows each
-better [] [] [] are few some many =
+better are_all [] [] [] true are some many =
     record { choice = []; is_choice = tt; short = omega arith; reads = omega arith; decodes = omega arith }
-better (side ∷ all) (row ∷ rows) (k ∷ each) are few some many =
-    let rest = better all rows each are.1 few.1 some.1 (omega arith) in
-    let (s, among, beats) = are.0.all few.0 k some.0 in
+better are_all (side ∷ all) (row ∷ rows) (k ∷ each) true are some many =
+    let rest = better are_all all rows each true are.1 some.1 (omega arith) in
+    let (s, among, beats) = are.0.all true k some.0 in
     record {
       choice = s ∷ rest.choice;
       is_choice = (among, rest.is_choice);
@@ -122,10 +121,10 @@ better (side ∷ all) (row ∷ rows) (k ∷ each) are few some many =
       reads = times s.chunks _ (chunks_of rest.choice) _ beats.chunks rest.reads;
       decodes = times s.elements _ (elements_of rest.choice) _ beats.elements rest.decodes;
     }
-better [] [] (_ ∷ _) are few some many = absurd (omega arith)
-better (_ ∷ _) (_ ∷ _) [] are few some many = absurd (omega arith)
-better [] (_ ∷ _) each are few some many = absurd are
-better (_ ∷ _) [] each are few some many = absurd are
+better are_all [] [] (_ ∷ _) true are some many = absurd (omega arith)
+better are_all (_ ∷ _) (_ ∷ _) [] true are some many = absurd (omega arith)
+better are_all [] (_ ∷ _) each true are some many = absurd are
+better are_all (_ ∷ _) [] each true are some many = absurd are
 
 -- ---- costs and bounds
 

@@ -25,6 +25,7 @@ mod TaskLaws
 pub mod TasksBegun
 mod TaskParts
 pub mod TaskPlans
+mod ThinnedRows
 mod TriedEdges
 mod TriedSizes
 mod TwoStages

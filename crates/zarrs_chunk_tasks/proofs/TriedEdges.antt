@@ -1,14 +1,12 @@
 -- The edges that are tried for the chunks of an intermediate array.
-use Rattle.std.proofs.Common.{◌≡◌, ◌∙◌, ℕ, zero, suc, ◌+◌, ◌-◌, ◌*◌, ◌<◌, ◌≤◌, ◌⊎◌, List, [], ◌∷◌, ◌++◌, Contains, Vec, Global, length, map, min, refl, ap, ap₂, subst, sym, get_or, set, take, take_all, arith, inl, inr, ⊎_elim, mul_comm}
+use Rattle.std.proofs.Common.{◌≡◌, ◌∙◌, ℕ, zero, suc, ◌+◌, ◌-◌, ◌*◌, ◌<◌, ◌≤◌, ◌⊎◌, List, [], ◌∷◌, ◌++◌, Contains, Vec, Global, length, map, min, refl, ap, ap₂, subst, sym, get_or, take, take_all, arith, inl, inr, ⊎_elim, mul_comm}
 use Rattle.std.proofs.Math.Nat.{div-lt_iff_lt-mul, lt-div-mul-add, mul-le-mul_right}
 use Rattle.std.proofs.lemmas.Bool.{cases_lt}
 use Rattle.std.proofs.lemmas.Grind.{div_ceil_times, get_or_default_zero}
-use Rattle.std.proofs.lemmas.List.{get_or-map, length-map, map-append, map-set, take_more, length-set}
-use Rattle.std.proofs.lemmas.List.Elements.{Contains-get_or, Contains-push_cases}
-use Rattle.std.proofs.lemmas.List.Sums.{sum_by-set}
+use Rattle.std.proofs.lemmas.List.{length-map, map-append, take_more}
 use Rattle.std.specs.Int.{div_ceil}
 use Rattle.std.specs.Int.NonZero.{non_zero_u64_get}
-use Rattle.std.specs.List.{AllByRecursion, AllZip, sum_by}
+use Rattle.std.specs.List.{AllByRecursion, AllZip}
 use Rattle.std.specs.declared.num.NonZeroU64.{NonZeroU64}
 use Rattle.zarrs_chunk_base.specs.ArraySubset.{Box, IsBox, IsEmptyBox, lasts}
 use Rattle.zarrs_chunk_base.specs.Dimension.{Dimension, Holds, InBox, IsChain}
@@ -26,11 +24,13 @@ use Rattle.zarrs_chunk_tasks.specs.Edges.{AreFewPieces, AreLongest, AreTriedEdge
 use Rattle.zarrs_chunk_tasks.specs.declared.edges.Units.{Units}
 use Rattle.zarrs_chunk_tasks.specs.seen.LargestChunk.{IsLongestOf}
 use Rattle.zarrs_chunk_tasks.specs.seen.Choices.{rows_of}
-use Rattle.zarrs_chunk_tasks.specs.seen.TriedEdges.{AreUnits, HasAllBy, HasPut, IsFew, IsPartOf, IsRow, IsSome, edges_in, rows_of_edges, units_of}
+use Rattle.zarrs_chunk_tasks.specs.seen.TriedEdges.{AreUnits, HasAllBy, HasPut, IsFew, IsRow, IsSome, edges_in, rows_of_edges, units_of}
 use Rattle.zarrs_chunk_tasks.proofs.GroupCounts.{first_within}
 use Rattle.zarrs_chunk_tasks.proofs.Grouped.{next_group}
 use Rattle.zarrs_chunk_tasks.proofs.LeastCost.{times}
 use Rattle.zarrs_chunk_tasks.proofs.SumsAlong.{greatest_more}
+use Rattle.zarrs_chunk_tasks.specs.seen.Thinning.{IsThinned}
+use Rattle.zarrs_chunk_tasks.proofs.ThinnedRows.{HaveSome}
 use Rattle.zarrs_chunk_tasks.proofs.TriedSizes.{zip_more}
 
 -- ---- divisions, rounded up
@@ -221,11 +221,6 @@ rows_more units k along rows after row within so_far here put =
 
 -- ---- properties of each
 
-pub all_at : {X : Type 0} (P : X → Type 0) (xs : List X) (k : ℕ) (d : X) → k < length xs → AllByRecursion P xs → P (get_or xs k d)
-all_at P [] k d within all = absurd (omega arith)
-all_at P (x ∷ xs) zero d within all = all.0
-all_at P (x ∷ xs) (suc k) d within all = all_at P xs k d (omega arith) all.1
-
 all_put : {X : Type 0} (P : X → Type 0) (xs : List X) (x : X) → AllByRecursion P xs → P x → AllByRecursion P (xs ++ x ∷ [])
 all_put P [] x all here = (here, tt)
 all_put P (y ∷ xs) x all here = (all.0, all_put P xs x all.1 here)
@@ -234,133 +229,48 @@ pub all_more : {X : Type 0} (P : X → Type 0) (xs : List X) (k : ℕ) (d : X) �
     → AllByRecursion P (take (k + 1) xs)
 all_more P xs k d within so_far here = rw (take_more xs k d within) (all_put P (take k xs) (get_or xs k d) so_far here)
 
-all_set : {X : Type 0} (P : X → Type 0) (xs : List X) (k : ℕ) (x : X) → AllByRecursion P xs → P x → AllByRecursion P (set xs k x)
-all_set P [] k x all here = tt
-all_set P (y ∷ xs) zero x all here = (here, all.1)
-all_set P (y ∷ xs) (suc k) x all here = (all.0, all_set P xs k x all.1 here)
-
 -- ---- fewer edges
 
--- the row of a number
-pub row_at : (rows : List (Vec NonZeroU64 Global)) (k : ℕ) (row : Vec NonZeroU64 Global) → k < length rows → row ≡ get_or rows k row
-    → length (get_or (rows_of_edges rows) k []) ≡ length row.items
-row_at rows k row within is =
-    ap length (get_or-map (λ (r : Vec NonZeroU64 Global). edges_in r.items) rows k row [] within)
-    ∙ ap (λ (r : Vec NonZeroU64 Global). length (edges_in r.items)) (sym is) ∙ length-map row.items non_zero_u64_get
+-- an edge, as a number, is one of a row
+pub edge_of_number : (row : List NonZeroU64) (edge : ℕ) → Contains (edges_in row) edge → (e : NonZeroU64) × Contains row e × (non_zero_u64_get e ≡ edge)
+edge_of_number [] edge (k, within, is) = absurd (omega arith)
+edge_of_number (e ∷ row) edge (zero, within, is) = (e, (0, omega arith, refl), is)
+edge_of_number (e ∷ row) edge (suc k, within, is) =
+    let (f, (j, below, at), same) = edge_of_number row edge (k, omega arith, is) in
+    (f, (suc j, omega arith, at), same)
 
-pub longest_so_far : (rows : List (List ℕ)) (place longest next : ℕ)
-    → ((k : ℕ) → k < place → length (get_or rows k []) ≤ length (get_or rows longest []))
-    → length (get_or rows longest []) ≤ length (get_or rows next []) → length (get_or rows place []) ≤ length (get_or rows next [])
-    → (k : ℕ) → k < place + 1 → length (get_or rows k []) ≤ length (get_or rows next [])
-longest_so_far rows place longest next so_far keeps here k below =
-    ⊎_elim (λ (before : k < place). omega (arith, so_far k before, keeps))
-    (λ (le : place ≤ k).
-    let is : place ≡ k = omega arith in
-    subst (λ (n : ℕ). length (get_or rows n []) ≤ length (get_or rows next [])) is here) (cases_lt k place)
+-- and the other way round
+pub number_of_edge : (row : List NonZeroU64) (edge : NonZeroU64) → Contains row edge → Contains (edges_in row) (non_zero_u64_get edge)
+number_of_edge [] edge (k, within, is) = absurd (omega arith)
+number_of_edge (e ∷ row) edge (zero, within, is) = (0, omega arith, ap non_zero_u64_get is)
+number_of_edge (e ∷ row) edge (suc k, within, is) =
+    let (j, below, at) = number_of_edge row edge (k, omega arith, is) in (suc j, omega arith, at)
 
--- rows of one edge at most make one shape
-one_shape : (rows : List (List ℕ)) → ((k : ℕ) → k < length rows → length (get_or rows k []) ≤ 1) → product (map length rows) ≤ 1
-one_shape [] each = omega arith
-one_shape (row ∷ rows) each =
-    times (length row) 1 (product (map length rows)) 1 (each 0 (omega arith)) (one_shape rows (λ k within. each (suc k) (omega arith)))
+pub edges_there : (rows : List (Vec NonZeroU64 Global)) → HaveSome (rows_of_edges rows) → HaveSome (rows_of rows)
+edges_there [] some = tt
+edges_there (row ∷ rows) some = (omega (arith, some.0, length-map row.items non_zero_u64_get), edges_there rows some.1)
 
--- so the longest row of those that make more has more than one
-longest_has_some : (rows : List (Vec NonZeroU64 Global)) (longest : ℕ)
-    → ((k : ℕ) → k < length rows → length (get_or (rows_of_edges rows) k []) ≤ longest) → 1 < product (map length (rows_of_edges rows)) → 1 < longest
-longest_has_some rows longest each more =
-    let many = length-map rows (λ (row : Vec NonZeroU64 Global). edges_in row.items) in
-    ⊎_elim (λ (some : 1 < longest). some)
-    (λ (le : longest ≤ 1).
-    let one = one_shape (rows_of_edges rows) (λ k within. let up = each k (omega (arith, many, within)) in omega (arith, le, up)) in
-    absurd (omega (arith, more, one))) (cases_lt 1 longest)
+pub numbers_there : (rows : List (Vec NonZeroU64 Global)) → HaveSome (rows_of rows) → HaveSome (rows_of_edges rows)
+numbers_there [] some = tt
+numbers_there (row ∷ rows) some = (omega (arith, some.0, length-map row.items non_zero_u64_get), numbers_there rows some.1)
 
-shorter_row : (rows : List (Vec NonZeroU64 Global)) (k : ℕ) (row part : Vec NonZeroU64 Global) → k < length rows → row ≡ get_or rows k row
-    → length part.items < length row.items
-    → sum_by (λ (r : Vec NonZeroU64 Global). length r.items) (set rows k part) < sum_by (λ (r : Vec NonZeroU64 Global). length r.items) rows
-shorter_row rows k row part within is less =
-    let sums = sum_by-set (λ (r : Vec NonZeroU64 Global). length r.items) rows k part row within in
-    let here = ap (λ (r : Vec NonZeroU64 Global). length r.items) is in
-    omega (arith, sums, here, less)
+-- a shape of thinned rows is one of the rows
+pub shape_of_thinned : (rows fewer : List (Vec NonZeroU64 Global)) (shape : List ℕ) → AllZip IsThinned (rows_of rows) (rows_of fewer)
+    → AllZip Contains (rows_of_edges fewer) shape → AllZip Contains (rows_of_edges rows) shape
+shape_of_thinned [] [] [] are has = tt
+shape_of_thinned (row ∷ rows) (part ∷ fewer) (edge ∷ shape) are has =
+    let (e, there, same) = edge_of_number part.items edge has.0 in
+    (subst (Contains (edges_in row.items)) same (number_of_edge row.items e (are.0.among e there)), shape_of_thinned rows fewer shape are.1 has.1)
+shape_of_thinned [] (_ ∷ _) shape are has = absurd are
+shape_of_thinned (_ ∷ _) [] shape are has = absurd are
+shape_of_thinned [] [] (_ ∷ _) are has = absurd has
+shape_of_thinned (_ ∷ _) (_ ∷ _) [] are has = absurd has
 
-still_some : (rows : List (Vec NonZeroU64 Global)) (k : ℕ) (part : Vec NonZeroU64 Global) → AllByRecursion (λ row. 0 < length row) (rows_of_edges rows)
-    → 0 < length part.items → AllByRecursion (λ row. 0 < length row) (rows_of_edges (set rows k part))
-still_some rows k part all some =
-    rw (map-set (λ (r : Vec NonZeroU64 Global). edges_in r.items) rows k part)
-    (all_set (λ row. 0 < length row) (rows_of_edges rows) k (edges_in part.items) all (subst (λ n. 0 < n) (sym (length-map part.items non_zero_u64_get)) some))
-
--- ---- parts of rows
-
-pub parts_itself : (rows : List (List ℕ)) → AllZip IsPartOf rows rows
-parts_itself [] = tt
-parts_itself (row ∷ rows) = (λ edge there. there, parts_itself rows)
-
-pub parts_of_parts : (rows fewer least : List (List ℕ)) → AllZip IsPartOf rows fewer → AllZip IsPartOf fewer least → AllZip IsPartOf rows least
-parts_of_parts [] [] [] are also = tt
-parts_of_parts (row ∷ rows) (part ∷ fewer) (less ∷ least) are also =
-    (λ edge there. are.0 edge (also.0 edge there), parts_of_parts rows fewer least are.1 also.1)
-parts_of_parts [] (_ ∷ _) least are also = absurd are
-parts_of_parts (_ ∷ _) [] least are also = absurd are
-parts_of_parts [] [] (_ ∷ _) are also = absurd also
-parts_of_parts (_ ∷ _) (_ ∷ _) [] are also = absurd also
-
--- a part in the place of one row
-part_set : (rows : List (List ℕ)) (k : ℕ) (part : List ℕ) → k < length rows → IsPartOf (get_or rows k []) part → AllZip IsPartOf rows (set rows k part)
-part_set [] k part within is = absurd (omega arith)
-part_set (row ∷ rows) zero part within is = (is, parts_itself rows)
-part_set (row ∷ rows) (suc k) part within is = (λ edge there. there, part_set rows k part (omega arith) is)
-
--- a shape of parts of rows is one of the rows
-pub shape_of_parts : (rows fewer : List (List ℕ)) (shape : List ℕ) → AllZip IsPartOf rows fewer → AllZip Contains fewer shape → AllZip Contains rows shape
-shape_of_parts [] [] [] are has = tt
-shape_of_parts (row ∷ rows) (part ∷ fewer) (edge ∷ shape) are has = (are.0 edge has.0, shape_of_parts rows fewer shape are.1 has.1)
-shape_of_parts [] (_ ∷ _) shape are has = absurd are
-shape_of_parts (_ ∷ _) [] shape are has = absurd are
-shape_of_parts [] [] (_ ∷ _) are has = absurd has
-shape_of_parts (_ ∷ _) (_ ∷ _) [] are has = absurd has
-
-pub part_more : (row part after : List NonZeroU64) (k : ℕ) (here : NonZeroU64) → IsPartOf (edges_in row) (edges_in part) → here ≡ get_or row k here
-    → k < length row → after ≡ part ++ here ∷ [] → IsPartOf (edges_in row) (edges_in after)
-part_more row part after k here so_far is within put = λ x there.
-    let many = length-map row non_zero_u64_get in
-    let at = get_or-map non_zero_u64_get row k here x within ∙ ap non_zero_u64_get (sym is) in
-    let first = Contains-get_or (edges_in row) k x (omega (arith, many, within)) in
-    ⊎_elim (λ was. so_far x was) (λ (same : non_zero_u64_get here ≡ x). subst (Contains (edges_in row)) (at ∙ same) first)
-    (Contains-push_cases (edges_in part) (non_zero_u64_get here) x
-    (subst (λ xs. Contains xs x) (ap edges_in put ∙ map-append non_zero_u64_get part (here ∷ [])) there))
-
-part_in_place : (rows : List (Vec NonZeroU64 Global)) (k : ℕ) (row part : Vec NonZeroU64 Global) → k < length rows → row ≡ get_or rows k row
-    → IsPartOf (edges_in row.items) (edges_in part.items) → AllZip IsPartOf (rows_of_edges rows) (rows_of_edges (set rows k part))
-part_in_place rows k row part within is are =
-    let many = length-map rows (λ (r : Vec NonZeroU64 Global). edges_in r.items) in
-    let at =
-    get_or-map (λ (r : Vec NonZeroU64 Global). edges_in r.items) rows k row [] within ∙ ap (λ (r : Vec NonZeroU64 Global). edges_in r.items) (sym is)
-    in
-    rw (map-set (λ (r : Vec NonZeroU64 Global). edges_in r.items) rows k part)
-    (part_set (rows_of_edges rows) k (edges_in part.items) (omega (arith, many, within)) (subst (λ (r : List ℕ). IsPartOf r (edges_in part.items)) (sym at) are))
-
--- with a part of the longest row in its place
-pub record IsThinner (rows fewer : List (Vec NonZeroU64 Global)) : Type 0 where
-  pub long : length fewer ≡ length rows
-  pub some : AllByRecursion (λ row. 0 < length row) (rows_of_edges fewer)
-  pub parts : AllZip IsPartOf (rows_of_edges rows) (rows_of_edges fewer)
-  pub smaller : sum_by (λ (r : Vec NonZeroU64 Global). length r.items) fewer < sum_by (λ (r : Vec NonZeroU64 Global). length r.items) rows
-
-pub thinner : (rows : List (Vec NonZeroU64 Global)) (k shapes : ℕ) (row part : Vec NonZeroU64 Global)
-    → shapes ≡ min greatest (product (map length (rows_of_edges rows))) → 1 < shapes → k < length rows
-    → ((n : ℕ) → n < length rows → length (get_or (rows_of_edges rows) n []) ≤ length (get_or (rows_of_edges rows) k []))
-    → row ≡ get_or rows k row → AllByRecursion (λ row. 0 < length row) (rows_of_edges rows)
-    → (0 < length row.items → 0 < length part.items) → (1 < length row.items → length part.items < length row.items)
-    → IsPartOf (edges_in row.items) (edges_in part.items) → IsThinner rows (set rows k part)
-thinner rows k shapes row part shapes_are more within longest is all some fewer part_is =
-    let here = row_at rows k row within is in
-    let least_two = longest_has_some rows (length (get_or (rows_of_edges rows) k [])) longest (omega (arith, shapes_are, more)) in
-    let two : 1 < length row.items = omega (arith, here, least_two) in
-    record {
-      long = length-set rows k part;
-      some = still_some rows k part all (some (omega (arith, two)));
-      parts = part_in_place rows k row part within is part_is;
-      smaller = shorter_row rows k row part within is (fewer two);
-    }
+pub as_many_rows : (rows fewer : List (Vec NonZeroU64 Global)) → AllZip IsThinned (rows_of rows) (rows_of fewer) → length fewer ≡ length rows
+as_many_rows [] [] are = refl
+as_many_rows (row ∷ rows) (part ∷ fewer) are = ap suc (as_many_rows rows fewer are.1)
+as_many_rows [] (_ ∷ _) are = absurd are
+as_many_rows (_ ∷ _) [] are = absurd are
 
 -- ---- the longest chunks
 

@@ -4,7 +4,6 @@ use Rattle.std.proofs.Math.Nat.{div-eq_of_lt-le, mod-add-div', mod-lt, mul-le-mu
 use Rattle.std.proofs.lemmas.List.{append-nil, drop_all, length-map}
 use Rattle.std.proofs.lemmas.Bool.{and_from, cases_lt, true≢false}
 use Rattle.std.specs.Int.NonZero.{non_zero_u64_get}
-use Rattle.std.specs.List.{AllByRecursion}
 use Rattle.std.specs.declared.num.NonZeroU64.{NonZeroU64}
 use Rattle.zarrs_chunk_base.specs.ArraySubset.{Box}
 use Rattle.zarrs_chunk_base.specs.Dimension.{Dimension, array_sizes}
@@ -20,11 +19,9 @@ use Rattle.zarrs_chunk_tasks.specs.declared.between.TwoStages.{TwoStages}
 use Rattle.zarrs_chunk_tasks.specs.declared.cheapest.CheapestTasks.{CheapestTasks}
 use Rattle.zarrs_chunk_tasks.specs.seen.Between.{AreBy, AreChosen, AreExactBy, FindsBoth, IsCheaper, IsCompared, IsOneOf, IsShapeAt, Keeps, KeepsOne, NoneIsBelow, best_cost, both_are_exact, cost_of_both}
 use Rattle.zarrs_chunk_tasks.specs.seen.Choices.{IsBelow, rows_of}
+use Rattle.zarrs_chunk_tasks.proofs.ThinnedRows.{HaveSome}
 
 -- ---- shapes
-
-abbrev pub SomeInEach : List (List NonZeroU64) → Type 0
-SomeInEach = AllByRecursion (λ (row : List NonZeroU64). 0 < length row)
 
 -- the shape of a number so far: what comes after it is the shape of what is left of the number
 abbrev pub IsShapeTo : List (List NonZeroU64) → (number k left : ℕ) → List NonZeroU64 → Type 0
@@ -48,7 +45,7 @@ one_edge_more rows number k left row edge shape within is edge_is so_far = λ re
     appended [] edge rest = refl
     appended (e ∷ shape) edge rest = ap (λ s. e ∷ s) (appended shape edge rest)
 
-pub some_in_row : (rows : List (Vec NonZeroU64 Global)) (k : ℕ) (row : Vec NonZeroU64 Global) → SomeInEach (rows_of rows) → k < length rows
+pub some_in_row : (rows : List (Vec NonZeroU64 Global)) (k : ℕ) (row : Vec NonZeroU64 Global) → HaveSome (rows_of rows) → k < length rows
     → row ≡ slice_index_or rows k row → 0 < length row.items
 some_in_row (r ∷ rows) zero row some within is = rw is some.0
 some_in_row (r ∷ rows) (suc k) row some within is = some_in_row rows k row some.1 (omega arith) is
@@ -78,7 +75,7 @@ one_each [] number (_ ∷ _) is = absurd is
 one_each (_ ∷ _) number [] is = absurd is
 
 -- a number has one shape
-pub one_shape : (rows : List (List NonZeroU64)) (number : ℕ) (shape other : List NonZeroU64) → SomeInEach rows → IsShapeAt rows number shape
+pub one_shape : (rows : List (List NonZeroU64)) (number : ℕ) (shape other : List NonZeroU64) → HaveSome rows → IsShapeAt rows number shape
     → IsShapeAt rows number other → shape ≡ other
 one_shape [] number [] [] some is are = refl
 one_shape (row ∷ rows) number (e ∷ shape) (f ∷ other) some is are =
@@ -90,7 +87,7 @@ one_shape (_ ∷ _) number [] other some is are = absurd is
 one_shape (_ ∷ _) number (_ ∷ _) [] some is are = absurd are
 
 -- the shape of a number is one of them
-pub is_one_of : (rows : List (List NonZeroU64)) (number : ℕ) (shape : List NonZeroU64) → SomeInEach rows → IsShapeAt rows number shape → IsOneOf rows shape
+pub is_one_of : (rows : List (List NonZeroU64)) (number : ℕ) (shape : List NonZeroU64) → HaveSome rows → IsShapeAt rows number shape → IsOneOf rows shape
 is_one_of [] number [] some is = tt
 is_one_of (row ∷ rows) number (e ∷ shape) some is =
     ((number % length row, mod_below number (length row) some.0, is.0), is_one_of rows (number / length row) shape some.1 is.1)
@@ -302,7 +299,7 @@ module _ (source target : List Dimension) (region : Box) (at : List ℕ) (most w
 
   -- the shapes up to a number are compared
   pub shapes_compared : (before after : Compared) (found : Option TwoStages) (rows : List (List NonZeroU64)) (number : ℕ) (shape : List NonZeroU64)
-      → SomeInEach rows → IsShapeAt rows number shape → Keeps before found after → Finds shape (best_cost before.best) found
+      → HaveSome rows → IsShapeAt rows number shape → Keeps before found after → Finds shape (best_cost before.best) found
       → ((n : ℕ) (s : List NonZeroU64) → n < number → IsShapeAt rows n s → Compares before s)
       → (n : ℕ) (s : List NonZeroU64) → n < number + 1 → IsShapeAt rows n s → Compares after s
   shapes_compared before after found rows number shape some is keeps finds so_far n s below at =

@@ -10,5 +10,6 @@ pub mod PlannedTasks
 pub mod Sizes
 pub mod Stages
 pub mod Tasks
+pub mod Thinning
 pub mod Tried
 pub mod TriedEdges

@@ -14,7 +14,7 @@ ghost use Rattle.zarrs_chunks.specs.seen.Grids.{regular_of};
 use crate::cheapest::{CheapestTasks, cheapest_tasks};
 use crate::choices::is_below;
 use crate::least::least_cost;
-use crate::tried::choices_of;
+use crate::thinning::choices_of;
 use std::alloc::{AllocError, Global};
 use std::num::NonZeroU64;
 use zarrs_chunk_base::{ArraySubset, ChunkShape, Refusal};

@@ -36,12 +36,11 @@ pub struct CheapestTasks {
 /// cost nothing.
 ///
 /// A choice is a number of chunks for each dimension. Count the target's chunks from the array's first one to the region's last one, along each dimension. If
-/// these counts are at most 2^16, and their product is at most 2^24, all choices are compared. Otherwise `is_exact` may be `false`. The tasks cost no more than
+/// these counts are at most 2^16, and their product is at most 2^24, all choices are compared. Otherwise `is_exact` is `false`. The tasks cost no more than
 /// tasks of one chunk each in any case.
 ///
-/// Along a dimension each number of chunks up to 2^16 is tried, and of greater ones those that make one group, two, four and so on. Of a number that reads and
-/// decodes no less than a smaller one with groups that are no longer, no choice is compared. If more than 2^24 choices are left, some numbers are left out along
-/// each dimension, with equally many between those that are compared.
+/// If not all choices are compared, each number of chunks up to 16 is tried along a dimension, and then numbers of which each is greater by a sixteenth than the
+/// one before it. While there are more than 2^18 choices, every second number is left out along the dimension that has the most. So any number of chunks will do.
 ///
 /// It takes the time to count groups of each number of chunks that is tried, as [`task_counts`](crate::task_counts) does, and some multiplications for each
 /// choice.

@@ -1,5 +1,5 @@
 //! The edges that are tried for the chunks of an intermediate array.
-ghost use Rattle.std.specs.Prelude.{◌≡◌, ◌-◌, ◌*◌, ◌≤◌, ◌<◌, ◌↔◌, ℕ, IfOk, IsTrue, List, [], get_or, length, map, min};
+ghost use Rattle.std.specs.Prelude.{◌≡◌, ◌-◌, ◌*◌, ◌≤◌, ◌<◌, ◌↔◌, ℕ, IfOk, IsTrue, List, length, map, min};
 ghost use Rattle.std.specs.Int.NonZero.{non_zero_u64_get};
 ghost use Rattle.std.specs.List.{AllByRecursion, AllZip, Contains};
 ghost use Rattle.zarrs_chunk_base.specs.ArraySubset.{IsEmptyBox};
@@ -9,10 +9,10 @@ ghost use Rattle.zarrs_chunk_plan.specs.Counts.{product};
 ghost use Rattle.zarrs_chunk_plan.specs.Region.{LiesIn};
 ghost use Rattle.zarrs_chunk_tasks.specs.Edges.{AreFewPieces, AreLongest, IsTriedShape, most_pieces, most_shapes, rounded_up};
 ghost use Rattle.zarrs_chunk_tasks.specs.seen.Choices.{rows_of};
-ghost use Rattle.zarrs_chunk_tasks.specs.seen.TriedEdges.{AreUnits, HasAllBy, HasPut, IsFew, IsPartOf, IsRow, IsSome, edges_in, rows_of_edges};
+ghost use Rattle.zarrs_chunk_tasks.specs.seen.TriedEdges.{AreUnits, HasAllBy, HasPut, IsFew, IsRow, IsSome, edges_in, rows_of_edges};
 
 use crate::largest_chunk::longest_along;
-use crate::tried::choices_of;
+use crate::thinning::{choices_of, thinned};
 use std::alloc::{AllocError, Global};
 use std::num::NonZeroU64;
 use zarrs_chunk_base::ArraySubset;
@@ -22,8 +22,11 @@ use zarrs_chunks::ChunkGridTraits;
 /// Up to how many pieces along a dimension each edge is tried.
 const MOST_PIECES: u64 = 1 << 16;
 
-/// How many shapes are tried, at most.
+/// Up to how many shapes each one is tried.
 const MOST_SHAPES: u64 = 1 << 17;
+
+/// How many shapes are tried at most if they are more.
+const SOME_SHAPES: u64 = 1 << 12;
 
 /// The edges that are tried.
 #[derive(Drop)]
@@ -49,8 +52,8 @@ struct Units {
 ///
 /// Along each dimension an edge is made of whole units. A unit is as long as the longest chunk of the source, of those that hold some of the region, or as the
 /// longest one of the target. An edge has the least number of units that cuts the region into at most one piece, two, three and so on. It is cut to the region's
-/// size. If there are more than 2^16 units along a dimension, the number of pieces at least doubles from one edge to the next. While there are more than 2^17
-/// shapes, every second edge is left out along the dimension that has the most.
+/// size. If there are more than 2^16 units along a dimension, the number of pieces at least doubles from one edge to the next. If there are more than 2^17 shapes,
+/// every second edge is left out along the dimension that has the most, until there are no more than 2^12 shapes.
 ///
 /// # Errors
 /// Out of memory.
@@ -82,7 +85,7 @@ pub(crate) fn tried_edges<G: ChunkGridTraits, H: ChunkGridTraits>(
     let rows = all_edges(alloc, &units)?;
     if choices_of(&rows) > MOST_SHAPES {
         return Ok(TriedEdges {
-            rows: thinned(alloc, rows)?,
+            rows: thinned(alloc, rows, SOME_SHAPES)?,
             are_all: false,
         });
     }
@@ -275,59 +278,4 @@ fn has_edge(edges: &[NonZeroU64], edge: NonZeroU64) -> bool
         }
     }
     false
-}
-
-/// Returns fewer edges, so that the shapes aren't too many.
-///
-/// # Errors
-/// Out of memory.
-fn thinned(
-    alloc: Global,
-    mut rows: Vec<Vec<NonZeroU64>>,
-) -> Result<Vec<Vec<NonZeroU64>>, AllocError>
-    requires { AllByRecursion (λ row. 0 < length row) (rows_of_edges rows.items) }
-    ensures long { IfOk result (λ fewer. length fewer.items ≡ length rows.items) }
-    ensures some { IfOk result (λ fewer. AllByRecursion (λ row. 0 < length row)
-        (rows_of_edges fewer.items)) }
-    ensures few { IfOk result (λ fewer. product (map length (rows_of fewer.items)) ≤ most_shapes) }
-    ensures parts { IfOk result (λ fewer. AllZip IsPartOf (rows_of_edges rows.items)
-        (rows_of_edges fewer.items)) }
-{
-    while choices_of(&rows) > MOST_SHAPES {
-        let longest = longest_row(&rows);
-        rows[longest] = every_second(alloc, &rows[longest])?;
-    }
-    Ok(rows)
-}
-
-/// Which of some rows is the longest, or the first one of those.
-fn longest_row(rows: &[Vec<NonZeroU64>]) -> usize
-    requires { 0 < length rows.now }
-    ensures is_one { result < length rows.now }
-    ensures longest { (k : ℕ) → k < length rows.now → length (get_or (rows_of_edges rows.now) k [])
-        ≤ length (get_or (rows_of_edges rows.now) result []) }
-{
-    let mut longest = 0;
-    for place in 1..rows.len() {
-        if rows[place].as_slice().len() > rows[longest].as_slice().len() {
-            longest = place;
-        }
-    }
-    longest
-}
-
-/// Returns the first edge of a row, and every second one after it.
-///
-/// # Errors
-/// Out of memory.
-fn every_second(alloc: Global, row: &[NonZeroU64]) -> Result<Vec<NonZeroU64>, AllocError>
-    ensures some { 0 < length row.now → IfOk result (λ part. 0 < length part.items) }
-    ensures fewer { 1 < length row.now → IfOk result (λ part. length part.items < length row.now) }
-    ensures part { IfOk result (λ part. IsPartOf (edges_in row.now) (edges_in part.items)) }
-{
-    let mut part = Vec::new(alloc);
-    for half in 0..row.len().div_ceil(2) {
-        part.push(row[2 * half])?;
-    }
-    Ok(part)
 }

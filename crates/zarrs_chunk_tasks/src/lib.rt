@@ -59,6 +59,7 @@ mod sizes;
 mod stages;
 mod task;
 mod tasks_error;
+mod thinning;
 mod tried;
 mod walk;
 

@@ -1,5 +1,5 @@
 //! How many chunks a group joins along one dimension, and what groups of that size cost.
-ghost use Rattle.std.specs.Prelude.{◌≡◌, ◌+◌, ◌≤◌, IfOk, IsTrue};
+ghost use Rattle.std.specs.Prelude.{◌≡◌, ◌+◌, ◌<◌, ◌≤◌, IfOk, IsTrue};
 ghost use Rattle.std.specs.List.{Contains};
 ghost use Rattle.zarrs_chunk_axes.specs.Along.{Along};
 ghost use Rattle.zarrs_chunk_base.specs.Greatest.{greatest};
@@ -12,8 +12,11 @@ use std::alloc::{AllocError, Global};
 use std::num::NonZeroU64;
 use zarrs_chunks::ChunkGridTraits;
 
-/// Up to which number each number of chunks is tried.
-pub(crate) const MOST_SIZES: u64 = 1 << 16;
+/// Up to how many chunks each number is tried if not all are.
+const ONE_BY_ONE: u64 = 16;
+
+/// With how many sizes before it a size is compared at most. A size that is kept though another one beats it only takes time.
+const MOST_COMPARED: usize = 256;
 
 /// How many chunks a group joins along a dimension, and what groups of that size cost.
 #[derive(Clone, Copy)]
@@ -31,7 +34,8 @@ pub(crate) struct Size {
 /// Returns the sizes that are tried. `range` is a range of indices by groups of any number of chunks, and begins at `first` in the array of another grid. The
 /// first size is one chunk. Each other size has shorter groups than one before it, or reads or decodes less.
 ///
-/// Each number of chunks is tried up to 2^16, and of greater ones those that make one group, two, four, and so on.
+/// If `are_all`, each number of chunks is tried. Otherwise each number up to 16 is, and then numbers of which each is greater by a sixteenth than the one before
+/// it, up to the number that makes one group.
 ///
 /// # Errors
 /// Out of memory.
@@ -40,25 +44,50 @@ pub(crate) fn sizes_along<K: ChunkGridTraits, G: ChunkGridTraits>(
     range: &GroupsAlong<K>,
     other: &G,
     first: u64,
+    are_all: bool,
 ) -> Result<Vec<Size>, AllocError>
     requires range { Along (GroupsTake range.now) (K.dimensions range.now.grid.now)
         range.now.dimension }
     requires other { Along (λ s. first + range.now.size ≤ s.array_size) (G.dimensions other.now)
         range.now.dimension }
     requires first { first + range.now.size ≤ greatest }
-    ensures { IfOk result (λ sizes. Along (λ d. Along (λ s. AreSizes (side_of range.now first d s)
-        sizes.items) (G.dimensions other.now) range.now.dimension)
+    ensures { IfOk result (λ sizes. Along (λ d. Along (λ s. AreSizes are_all
+        (side_of range.now first d s) sizes.items) (G.dimensions other.now) range.now.dimension)
         (K.dimensions range.now.grid.now) range.now.dimension) }
 {
+    let mut last = first_last(range.last, are_all);
     // No number of a chunk is the greatest number.
-    let mut each = NonZeroU64::MIN.saturating_add(range.last);
-    let mut sizes = sizes_to(alloc, range, other, first, each.get().min(MOST_SIZES))?;
-    while each.get() > MOST_SIZES {
+    let mut sizes = sizes_to(alloc, range, other, first, last.saturating_add(1))?;
+    while last < range.last {
+        last = greater(last, range.last);
+        let each = NonZeroU64::MIN.saturating_add(last);
         let size = size_of(alloc, range, each, other, first)?;
         keep(&mut sizes, size)?;
-        each = NonZeroU64::MIN.saturating_add((each.get() - 1) / 2);
     }
     Ok(sizes)
+}
+
+/// Up to which chunk each number of chunks is tried.
+fn first_last(last: u64, are_all: bool) -> u64
+    ensures within { result ≤ last }
+    ensures all { IsTrue are_all → result ≡ last }
+{
+    if are_all {
+        last
+    } else {
+        last.min(ONE_BY_ONE - 1)
+    }
+}
+
+/// A number that is greater by a sixteenth, but no greater than `most`.
+fn greater(number: u64, most: u64) -> u64
+    requires { number < most }
+    ensures greater { number < result }
+    ensures within { result ≤ most }
+{
+    number
+        .saturating_add((number / ONE_BY_ONE).max(1))
+        .min(most)
 }
 
 /// Returns the sizes of up to `most` chunks.
@@ -132,7 +161,7 @@ fn size_of<K: ChunkGridTraits, G: ChunkGridTraits>(
     })
 }
 
-/// Keeps a size, unless one that is kept has groups that are no longer, and reads and decodes no more.
+/// Keeps a size, unless one of the last sizes that are kept has groups that are no longer, and reads and decodes no more.
 ///
 /// # Errors
 /// Out of memory.
@@ -145,11 +174,12 @@ fn keep(sizes: &mut Vec<Size>, size: Size) -> Result<(), AllocError>
     Ok(())
 }
 
-/// Whether one of some sizes takes the place of another one in each choice.
+/// Whether one of the last of some sizes takes the place of another one in each choice.
 fn is_beaten(sizes: &[Size], size: &Size) -> bool
     ensures { IsTrue result → (other : Size) × Contains sizes.now other × IsNoWorse other size.now }
 {
-    for other in sizes {
+    for place in sizes.len().saturating_sub(MOST_COMPARED)..sizes.len() {
+        let other = &sizes[place];
         if other.largest <= size.largest
             && other.chunks <= size.chunks
             && other.elements <= size.elements

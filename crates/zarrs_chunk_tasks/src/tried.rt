@@ -1,5 +1,5 @@
 //! The sizes of groups that are tried along each dimension.
-ghost use Rattle.std.specs.Prelude.{◌≡◌, ◌≤◌, ◌<◌, ◌↔◌, IfOk, IfSome, IfNone, IsTrue, length, map, min};
+ghost use Rattle.std.specs.Prelude.{◌≡◌, ◌≤◌, ◌<◌, ◌↔◌, IfOk, IfSome, IfNone, IsTrue, map, min, suc};
 ghost use Rattle.std.specs.List.{AllByRecursion, AllZip};
 ghost use Rattle.zarrs_chunk_base.specs.ArraySubset.{IsEmptyBox, lasts};
 ghost use Rattle.zarrs_chunk_base.specs.Dimension.{array_sizes};
@@ -7,23 +7,28 @@ ghost use Rattle.zarrs_chunk_base.specs.Greatest.{greatest};
 ghost use Rattle.zarrs_chunks.specs.Subsets.{IsCover};
 ghost use Rattle.zarrs_chunk_plan.specs.Counts.{product};
 ghost use Rattle.zarrs_chunk_plan.specs.Region.{LiesIn};
-ghost use Rattle.zarrs_chunk_tasks.specs.Cheapest.{most_sizes};
+ghost use Rattle.zarrs_chunk_tasks.specs.Cheapest.{most_choices, most_sizes};
 ghost use Rattle.zarrs_chunk_tasks.specs.seen.Choices.{rows_of};
 ghost use Rattle.zarrs_chunk_tasks.specs.seen.Counts.{AreCopied, AreGrouped};
 ghost use Rattle.zarrs_chunk_tasks.specs.seen.Sizes.{AreSizes, sides};
-ghost use Rattle.zarrs_chunk_tasks.specs.seen.Tried.{AreTriedOver, IsPart};
+ghost use Rattle.zarrs_chunk_tasks.specs.seen.Tried.{AreTriedOver};
 
 use crate::copied::{Copied, Grouped, groups_along, groups_with};
-use crate::sizes::{MOST_SIZES, Size, sizes_along};
+use crate::sizes::{Size, sizes_along};
+use crate::thinning::thinned;
 use std::alloc::{AllocError, Global};
 use std::num::NonZeroU64;
 use zarrs_chunk_base::ArraySubset;
 use zarrs_chunks::ChunkGridTraits;
 
-/// How many choices of one size for each dimension are gone through, at most: 2 to the power of this number.
-const CHOICE_BITS: u64 = 24;
+/// Up to how many chunks along a dimension each number of chunks is tried.
+const MOST_SIZES: u64 = 1 << 16;
 
-const MOST_CHOICES: u64 = 1 << CHOICE_BITS;
+/// Up to how many chunks along all dimensions together each choice is.
+const MOST_CHOICES: u64 = 1 << 24;
+
+/// How many choices of one size for each dimension there are at most if not all are tried.
+const SOME_CHOICES: u64 = 1 << 18;
 
 /// The sizes that are tried.
 #[derive(Drop)]
@@ -80,31 +85,32 @@ fn sizes_of_groups<G: ChunkGridTraits, H: ChunkGridTraits>(
     ensures { IfOk result (AreTriedOver (G.dimensions copied.now.source.now)
         (H.dimensions copied.now.target.now) copied.now.first.now grouped.now.elements.now) }
 {
-    let rows = all_sizes(alloc, copied, grouped)?;
-    if choices_of(&rows) > MOST_CHOICES {
-        return Ok(Tried {
-            rows: thinned(alloc, &rows)?,
-            is_exact: false,
-        });
-    }
     let is_exact = are_few(&grouped.last);
-    Ok(Tried { rows, is_exact })
+    let rows = sizes_of_each(alloc, copied, grouped, is_exact)?;
+    if is_exact {
+        return Ok(Tried { rows, is_exact });
+    }
+    Ok(Tried {
+        rows: thinned(alloc, rows, SOME_CHOICES)?,
+        is_exact,
+    })
 }
 
-/// Finds the sizes along each dimension.
+/// Finds the sizes along each dimension: of each number of chunks if `are_all`, and else of some.
 ///
 /// # Errors
 /// Out of memory.
-fn all_sizes<G: ChunkGridTraits, H: ChunkGridTraits>(
+fn sizes_of_each<G: ChunkGridTraits, H: ChunkGridTraits>(
     alloc: Global,
     copied: &Copied<G, H>,
     grouped: &Grouped<H>,
+    are_all: bool,
 ) -> Result<Vec<Vec<Size>>, AllocError>
     requires same { grouped.now.grid.now ≡ copied.now.target.now }
     requires grouped { AreGrouped H.dimensions (G.dimensions copied.now.source.now)
         (H.dimensions copied.now.target.now) copied.now.first.now grouped.now.elements.now.start
         grouped.now }
-    ensures { IfOk result (λ rows. AllZip AreSizes (sides (G.dimensions copied.now.source.now)
+    ensures { IfOk result (λ rows. AllZip (AreSizes are_all) (sides (G.dimensions copied.now.source.now)
         (H.dimensions copied.now.target.now) copied.now.first.now grouped.now.elements.now.start
         grouped.now.elements.now.shape grouped.now.cover.start grouped.now.last.items)
         (rows_of rows.items)) }
@@ -112,66 +118,38 @@ fn all_sizes<G: ChunkGridTraits, H: ChunkGridTraits>(
     let mut rows = Vec::with_capacity(alloc, grouped.each.len())?;
     for dimension in 0..grouped.each.len() {
         let along = groups_along(grouped, dimension);
-        rows.push(sizes_along(alloc, &along, copied.source, copied.first[dimension])?)?;
+        let first = copied.first[dimension];
+        rows.push(sizes_along(alloc, &along, copied.source, first, are_all)?)?;
     }
     Ok(rows)
 }
 
-/// How many choices there are of one size from each row, up to the greatest number.
-pub(crate) fn choices_of<T>(rows: &[Vec<T>]) -> u64
-    ensures { result ≡ min greatest (product (map length (rows_of rows.now))) }
-{
-    let mut choices = 1u64;
-    for row in rows {
-        choices = choices.saturating_mul(row.as_slice().len() as u64);
-    }
-    choices
-}
-
 /// Whether each number of chunks is tried along each dimension. `last` is the last chunk.
 fn are_few(last: &[u64]) -> bool
+    ensures { IsTrue result ↔ (AllByRecursion (λ n. n < most_sizes) last.now
+        × (product (map suc last.now) ≤ most_choices)) }
+{
+    if !are_few_along_each(last) {
+        return false;
+    }
+    chunks_to(last) <= MOST_CHOICES
+}
+
+/// Whether there are few chunks along each dimension, up to the last one.
+fn are_few_along_each(last: &[u64]) -> bool
     ensures { IsTrue result ↔ AllByRecursion (λ n. n < most_sizes) last.now }
 {
     last.iter().all(|n| *n < MOST_SIZES)
 }
 
-/// Returns fewer sizes, so that the choices aren't too many.
-///
-/// # Errors
-/// Out of memory.
-fn thinned(alloc: Global, rows: &[Vec<Size>]) -> Result<Vec<Vec<Size>>, AllocError>
-    ensures { IfOk result (λ parts. AllZip IsPart (rows_of rows.now) (rows_of parts.items)) }
+/// How many chunks there are up to the last one, up to the greatest number.
+fn chunks_to(last: &[u64]) -> u64
+    ensures { AllByRecursion (λ n. n < most_sizes) last.now
+        → result ≡ min greatest (product (map suc last.now)) }
 {
-    let most = most_each(rows.len());
-    let mut parts = Vec::with_capacity(alloc, rows.len())?;
-    for row in rows {
-        parts.push(part_of(alloc, row, most)?)?;
+    let mut chunks = 1u64;
+    for dimension in 0..last.len() {
+        chunks = chunks.saturating_mul(last[dimension].saturating_add(1));
     }
-    Ok(parts)
-}
-
-/// How many sizes of each row are kept at most. It is 2 to the power of `CHOICE_BITS` divided by the number of rows, rounded down, so that there are at most
-/// `MOST_CHOICES` choices.
-fn most_each(rows: usize) -> u64
-    ensures { 0 < result }
-{
-    1 << (CHOICE_BITS / (rows as u64).max(1))
-}
-
-/// Returns the first size of a row, and every second one after it, or every third one and so on, so that there are no more than `most`.
-///
-/// # Errors
-/// Out of memory.
-fn part_of(alloc: Global, row: &[Size], most: u64) -> Result<Vec<Size>, AllocError>
-    requires { 0 < most }
-    ensures { IfOk result (λ part. IsPart row.now part.items) }
-{
-    let step = (row.len() as u64).div_ceil(most);
-    let mut part = Vec::new(alloc);
-    for place in 0..row.len() {
-        if place as u64 % step == 0 {
-            part.push(row[place])?;
-        }
-    }
-    Ok(part)
+    chunks
 }

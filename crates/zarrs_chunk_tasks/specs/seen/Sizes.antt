@@ -1,10 +1,9 @@
 -- How many chunks a group joins along one dimension, and what groups of that size cost.
-use Rattle.std.specs.Prelude.{◌≡◌, ℕ, ◌+◌, ◌-◌, ◌/◌, ◌<◌, ◌≤◌, ◌⊎◌, List, [], ◌∷◌, ◌++◌, fold, length, max}
+use Rattle.std.specs.Prelude.{◌≡◌, Bool, IsTrue, ℕ, ◌+◌, ◌-◌, ◌/◌, ◌<◌, ◌≤◌, ◌⊎◌, List, [], ◌∷◌, ◌++◌, fold, length, max}
 use Rattle.std.specs.Int.NonZero.{non_zero_u64_get}
 use Rattle.std.specs.List.{AllByRecursion, Contains, sum}
 use Rattle.zarrs_chunk_base.specs.Dimension.{Dimension, IsChain}
 use Rattle.zarrs_chunk_plan.specs.seen.Sources.{met}
-use Rattle.zarrs_chunk_tasks.specs.Cheapest.{most_sizes}
 use Rattle.zarrs_chunk_tasks.specs.declared.counts.CountsAlong.{CountsAlong}
 use Rattle.zarrs_chunk_tasks.specs.declared.groups_along.GroupsAlong.{GroupsAlong}
 use Rattle.zarrs_chunk_tasks.specs.declared.sizes.Size.{Size}
@@ -110,12 +109,10 @@ pub record AreTried (side : Side) (sizes : List Size) : Type 0 where
   pub are : AllByRecursion (IsSize side) sizes
   pub least : StartsWithLeast side sizes
 
--- The sizes that are tried. If the chunks are few, the sizes are no more than the chunks, and beat groups of each number of chunks.
-pub record AreSizes (side : Side) (sizes : List Size) : Type 0 where
-  pub are : AllByRecursion (IsSize side) sizes
-  pub least : StartsWithLeast side sizes
-  pub few : side.high < most_sizes → length sizes ≤ side.high + 1
-  pub all : side.high < most_sizes → (k : ℕ) → 0 < k → IsBeaten side sizes k
+-- they are tried, and if they are all, they beat groups of each number of chunks
+pub record AreSizes (are_all : Bool) (side : Side) (sizes : List Size) : Type 0 where
+  pub tried : AreTried side sizes
+  pub all : IsTrue are_all → (k : ℕ) → 0 < k → IsBeaten side sizes k
 
 -- sizes up to a number of chunks
 pub record AreSizesTo (side : Side) (most : ℕ) (sizes : List Size) : Type 0 where

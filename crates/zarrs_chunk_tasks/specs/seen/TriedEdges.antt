@@ -54,10 +54,6 @@ pub record IsRow (units : Units) (row : List ℕ) : Type 0 where
   pub few : length row ≤ rounded_up units.size units.read + rounded_up units.size units.written
   pub all : IsFew units → (edge : ℕ) → IsTriedBy units edge → Contains row edge
 
--- the part has only edges that the row has
-abbrev pub IsPartOf : (row part : List ℕ) → Type 0
-IsPartOf row part = (edge : ℕ) → Contains part edge → Contains row edge
-
 -- each dimension's size, and the edges of the longest chunks, cut to it
 abbrev pub units_of : (sizes read written : List ℕ) → List Units
 units_of (n ∷ sizes) (r ∷ read) (w ∷ written) = record { size = n; read = min r n; written = min w n } ∷ units_of sizes read written

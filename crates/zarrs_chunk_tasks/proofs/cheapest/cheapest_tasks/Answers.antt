@@ -1,12 +1,11 @@
 use Rattle.std.proofs.Common.{◌∙◌, ap, arith, length, max, refl, sym}
 use Rattle.std.proofs.lemmas.List.{length-map, length-replicate}
-use Rattle.zarrs_chunk_base.specs.ArraySubset.{lasts}
 use Rattle.zarrs_chunk_base.specs.Dimension.{Dimension, array_sizes}
 use Rattle.zarrs_chunk_plan.proofs.MovedBoxes.{within_starts}
 use Rattle.zarrs_chunk_tasks.specs.seen.Choices.{rows_of}
 use Rattle.zarrs_chunk_tasks.proofs.ChosenTasks.{choice_is, exact_if_few, fits_in_room}
 use Rattle.zarrs_chunk_tasks.proofs.TaskLaws.{as_many_dimensions}
-use Rattle.zarrs_chunk_tasks.proofs.TriedSizes.{few_sides, some_rows}
+use Rattle.zarrs_chunk_tasks.proofs.TriedSizes.{are_tried, some_rows}
 use Rattle.zarrs_chunk_tasks.proofs.cheapest.cheapest_tasks.Goals as goal
 
 pub returns-in_default-clause-empty : goal.returns-in_default-clause-empty
@@ -24,7 +23,7 @@ returns-in_default-clause-empty g c = λ empty. record {
 pub cheapest_choice-requires : goal.cheapest_choice-requires
 cheapest_choice-requires g c =
     let tried = rw c.in-Some.is at (c.in_ok-tried.ensures {u = tt}).some in
-    rw c.deref.ensures.value (some_rows _ _ tried.are_tried)
+    rw c.deref.ensures.value (some_rows _ _ (are_tried c.in-Some.tried.is_exact _ _ tried.are_sizes))
 
 pub returns-clause-choice : goal.returns-clause-choice
 returns-clause-choice g c = λ some.
@@ -43,13 +42,12 @@ returns-clause-choice g c = λ some.
       is_largest = record { read = read; is_read = is_read; written = written; is_written = is_written; greater = refl };
       choice =
           choice_is source target region at (c.in_ok-moved.ensures {u = tt}).lies (g.met.G.ChunkGridTraits.chained c.args.source.now)
-          (g.met.H.ChunkGridTraits.chained c.args.target.now) c.is_a_box.ensures (c.in_ok-moved.ensures {u = tt}).is_box tried.some tried.cover tried.is_cover rows
-          tried.long tried.are_tried c.saturating_sub-room.result c.args.read_elements largest c.args.max_elements
+          (g.met.H.ChunkGridTraits.chained c.args.target.now) c.is_a_box.ensures (c.in_ok-moved.ensures {u = tt}).is_box tried.some tried.cover tried.is_cover
+          c.in-Some.tried.is_exact rows tried.long tried.are_sizes c.saturating_sub-room.result c.args.read_elements largest c.args.max_elements
           (fits_in_room c.args.max_elements read written _ _ c.saturating_sub-room.result (omega (arith, c.ranges.max_elements.fits)) read_is written_is
           (omega (arith, c.saturating_sub-room.ensures, c.max.ensures)))
-          c.in_ok-found.found c.outermost_first.result c.in-Some.tried.is_exact (rw c.deref.ensures.value at (c.in_ok-found.ensures {u = tt}))
-          c.outermost_first.ensures.none c.outermost_first.ensures.some
-          (λ all. (tried.all all, few_sides source target region.start at region.shape tried.cover.start (lasts tried.cover.start tried.cover.shape) (tried.all_few all)));
+          c.in_ok-found.found c.outermost_first.result (rw c.deref.ensures.value at (c.in_ok-found.ensures {u = tt}))
+          c.outermost_first.ensures.none c.outermost_first.ensures.some;
     }
 
 pub returns-clause-exact : goal.returns-clause-exact

@@ -1,6 +1,7 @@
 use Rattle.std.proofs.Common.{arith, take_all}
 use Rattle.zarrs_chunk_tasks.specs.seen.TriedEdges.{IsSome}
-use Rattle.zarrs_chunk_tasks.proofs.TriedEdges.{all_at, rows_more}
+use Rattle.zarrs_chunk_tasks.proofs.TriedEdges.{rows_more}
+use Rattle.zarrs_chunk_tasks.proofs.TriedSizes.{all_at}
 use Rattle.zarrs_chunk_tasks.proofs.edges.all_edges.Goals as goal
 
 pub loop-along-init : goal.loop-along-init

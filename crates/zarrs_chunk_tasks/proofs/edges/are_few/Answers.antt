@@ -1,7 +1,8 @@
 use Rattle.std.proofs.Common.{◌∙◌, arith, refl, sym, take_all}
 use Rattle.std.proofs.lemmas.Bool.{true≢false}
 use Rattle.zarrs_chunk_tasks.specs.seen.TriedEdges.{IsFew, IsSome}
-use Rattle.zarrs_chunk_tasks.proofs.TriedEdges.{all_at, all_more}
+use Rattle.zarrs_chunk_tasks.proofs.TriedEdges.{all_more}
+use Rattle.zarrs_chunk_tasks.proofs.TriedSizes.{all_at}
 use Rattle.zarrs_chunk_tasks.proofs.edges.are_few.Goals as goal
 
 pub is_few-requires : goal.is_few-requires

@@ -1,11 +1,12 @@
 use Rattle.std.proofs.Common.{◌∙◌, arith}
-use Rattle.zarrs_chunk_tasks.specs.seen.TriedEdges.{rows_of_edges}
-use Rattle.zarrs_chunk_tasks.proofs.TriedEdges.{all_tried, as_counted, as_many, few_along, few_rows, only_tried, shape_of_parts, some_rows}
+use Rattle.zarrs_chunk_tasks.specs.seen.Choices.{rows_of}
+use Rattle.zarrs_chunk_tasks.proofs.ThinnedRows.{still_some}
+use Rattle.zarrs_chunk_tasks.proofs.TriedEdges.{all_tried, as_counted, as_many, as_many_rows, edges_there, few_along, few_rows, numbers_there, only_tried, shape_of_thinned, some_rows}
 use Rattle.zarrs_chunk_tasks.proofs.edges.tried_edges.Goals as goal
 
-pub thinned-requires : goal.thinned-requires
-thinned-requires g c =
-    let is = rw c.deref.ensures.value at (c.in_ok-rows.ensures {u = tt}) in some_rows _ _ is
+pub thinned-requires-clause-some : goal.thinned-requires-clause-some
+thinned-requires-clause-some g c =
+    let is = rw c.deref.ensures.value at (c.in_ok-rows.ensures {u = tt}) in edges_there _ (some_rows _ _ is)
 
 pub returns-then-choices_of-gt-MOST_SHAPES-clause-long :
     goal.returns-then-choices_of-gt-MOST_SHAPES-clause-long
@@ -13,7 +14,7 @@ returns-then-choices_of-gt-MOST_SHAPES-clause-long g c =
     let source = g.G.ChunkGridTraits.dimensions c.args.source.now in
     let target = g.H.ChunkGridTraits.dimensions c.args.target.now in
     let is = rw c.deref.ensures.value at (c.in_ok-rows.ensures {u = tt}) in
-    (c.in_ok-thinned.ensures {u = tt}).long
+    as_many_rows c.in_ok-rows.rows.items _ (c.in_ok-thinned.ensures {u = tt}).thinned
     ∙ as_many source target c.args.region.now c.args.moved.now.start c.requires.some c.in_ok-units.units.items (c.in_ok-units.ensures {u = tt})
     c.in_ok-rows.rows.items is
 
@@ -25,7 +26,17 @@ returns-then-choices_of-gt-MOST_SHAPES-clause-tried g c = λ shape has.
     let is = rw c.deref.ensures.value at (c.in_ok-rows.ensures {u = tt}) in
     only_tried source target c.args.region.now c.args.moved.now.start c.requires.some c.in_ok-units.units.items (c.in_ok-units.ensures {u = tt})
     c.in_ok-rows.rows.items is shape
-    (shape_of_parts (rows_of_edges c.in_ok-rows.rows.items) (rows_of_edges c.in_ok-thinned.field-0.items) shape (c.in_ok-thinned.ensures {u = tt}).parts has)
+    (shape_of_thinned c.in_ok-rows.rows.items c.in_ok-thinned.field-0.items shape (c.in_ok-thinned.ensures {u = tt}).thinned has)
+
+pub returns-then-choices_of-gt-MOST_SHAPES-clause-some :
+    goal.returns-then-choices_of-gt-MOST_SHAPES-clause-some
+returns-then-choices_of-gt-MOST_SHAPES-clause-some g c =
+    let is = rw c.deref.ensures.value at (c.in_ok-rows.ensures {u = tt}) in
+    numbers_there _ (still_some (rows_of c.in_ok-rows.rows.items) _ (c.in_ok-thinned.ensures {u = tt}).thinned (edges_there _ (some_rows _ _ is)))
+
+pub returns-then-choices_of-gt-MOST_SHAPES-clause-few :
+    goal.returns-then-choices_of-gt-MOST_SHAPES-clause-few
+returns-then-choices_of-gt-MOST_SHAPES-clause-few g c = omega (arith, (c.in_ok-thinned.ensures {u = tt}).few)
 
 pub returns-then-choices_of-gt-MOST_SHAPES-clause-are_all :
     goal.returns-then-choices_of-gt-MOST_SHAPES-clause-are_all

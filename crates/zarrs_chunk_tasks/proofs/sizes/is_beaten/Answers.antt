@@ -1,13 +1,13 @@
 use Rattle.std.proofs.Common.{sym}
 use Rattle.zarrs_chunk_tasks.proofs.sizes.is_beaten.Goals as goal
 
-pub loop-other-init : goal.loop-other-init
-loop-other-init c = tt
+pub loop-place-init : goal.loop-place-init
+loop-place-init c = tt
 
 pub returns-then-other-size-3 : goal.returns-then-other-size-3
 returns-then-other-size-3 c = λ _. (
-  c.other-item.result,
-  (c.loop-other.other-index, c.loop-other-test.true, sym c.other-item.is),
+  c.index-sizes-place.result,
+  (c.loop-place.place, c.loop-place-test.true, sym c.index-sizes-place.is),
   record {
     largest = c.if-other-size.true;
     chunks = c.if-other-size-2.true;
@@ -15,5 +15,5 @@ returns-then-other-size-3 c = λ _. (
   },
 )
 
-pub loop-other-preserved : goal.loop-other-preserved
-loop-other-preserved c = tt
+pub loop-place-preserved : goal.loop-place-preserved
+loop-place-preserved c = tt

@@ -1,6 +1,7 @@
 use Rattle.std.proofs.Common.{◌≡◌, ◌∙◌, ◌&&◌, ap, arith, sym}
 use Rattle.std.proofs.lemmas.Bool.{and_left}
-use Rattle.zarrs_chunk_tasks.proofs.ChosenStages.{finds, of_nothing, some_edges}
+use Rattle.zarrs_chunk_tasks.proofs.ChosenStages.{finds, of_nothing}
+use Rattle.zarrs_chunk_tasks.proofs.TriedEdges.{edges_there}
 use Rattle.zarrs_chunk_tasks.proofs.ExactStages.{exact_if_few}
 use Rattle.zarrs_chunk_tasks.proofs.stages.cheapest_stages.Goals.{else-tried, then-tried}
 use Rattle.zarrs_chunk_tasks.proofs.stages.cheapest_stages.Goals as goal
@@ -11,7 +12,7 @@ returns-then-is_empty-clause-empty g c = λ empty.
     (c.in_ok-of_one.ensures {u = tt}).some
 
 pub cheapest_between-requires-clause-some : goal.cheapest_between-requires-clause-some
-cheapest_between-requires-clause-some g c = rw c.deref.ensures.value (some_edges c.in_ok-tried.tried.rows.items (c.in_ok-tried.ensures {u = tt}).some)
+cheapest_between-requires-clause-some g c = rw c.deref.ensures.value (edges_there c.in_ok-tried.tried.rows.items (c.in_ok-tried.ensures {u = tt}).some)
 
 pub cheapest_between-requires-clause-few : goal.cheapest_between-requires-clause-few
 cheapest_between-requires-clause-few g c = rw c.deref.ensures.value (omega (arith, (c.in_ok-tried.ensures {u = tt}).few))

@@ -4,7 +4,7 @@ use Rattle.zarrs_chunk_tasks.specs.declared.sizes.Size.{Size}
 use Rattle.zarrs_chunk_tasks.specs.seen.Sizes.{AreSizes, sides}
 use Rattle.zarrs_chunk_tasks.proofs.SideCounts.{as_many_sides}
 use Rattle.zarrs_chunk_tasks.proofs.TriedSizes.{grouped_many, rows_more}
-use Rattle.zarrs_chunk_tasks.proofs.tried.all_sizes.Goals as goal
+use Rattle.zarrs_chunk_tasks.proofs.tried.sizes_of_each.Goals as goal
 
 pub loop-dimension-preserved : goal.loop-dimension-preserved
 loop-dimension-preserved g c =
@@ -19,7 +19,7 @@ loop-dimension-preserved g c =
     let along = c.groups_along-along.ensures in
     let here = rw (along.grid, along.dimension, along.at, along.size, along.first, along.last, c.requires.same) at (c.in_ok-sizes_along.ensures {u = tt}) in
     rw ((c.in_ok-push.ensures {u = tt}).items, map-append (λ (row : Vec Size Global). row.items) c.loop-dimension.rows.items (c.in_ok-sizes_along.field-0 ∷ []))
-    (rows_more AreSizes source target copied.first.now grouped.elements.now.start grouped.elements.now.shape grouped.cover.start grouped.last.items k _ _ many within
+    (rows_more (AreSizes c.args.are_all) source target copied.first.now grouped.elements.now.start grouped.elements.now.shape grouped.cover.start grouped.last.items k _ _ many within
     c.loop-dimension.invariant here)
 
 pub returns : goal.returns

@@ -1,6 +1,6 @@
 use Rattle.std.proofs.Common.{arith, refl, take_all}
-use Rattle.zarrs_chunk_tasks.proofs.TriedSizes.{choices_more}
-use Rattle.zarrs_chunk_tasks.proofs.tried.choices_of.Goals as goal
+use Rattle.zarrs_chunk_tasks.proofs.ThinnedRows.{choices_more}
+use Rattle.zarrs_chunk_tasks.proofs.thinning.choices_of.Goals as goal
 
 pub loop-row-init : goal.loop-row-init
 loop-row-init g c = refl
