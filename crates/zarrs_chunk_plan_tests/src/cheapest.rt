@@ -344,7 +344,7 @@ const LONG: Row<'static> = Row {
     bounds: &[(4, 1, "[2] 98304 true")],
 };
 
-/// There is one chunk more, so not all numbers are tried. Groups of 2 read 32,769 chunks.
+/// There is one chunk more, so not all numbers are tried, but those up to 16 are. Groups of 2 read 32,769 chunks.
 const LONGER: Row<'static> = Row {
     source: (&[65_537], Chunks::Regular(&[2])),
     target: (&[65_537], Chunks::Regular(&[1])),
@@ -363,16 +363,15 @@ const EVEN_LONGER: Row<'static> = Row {
 };
 
 /// The source is one chunk of 1,000 elements, which go to 99,503 on. In a room of 500 two tasks have to part at 100,003. That number is prime, so groups of as
-/// many chunks are needed. It isn't tried: past 2^16 only 100,503 is. Groups of 349 part at 99,814 and at 100,163. Groups of 1,047 part at 99,465 and at
-/// 100,512, so there is one task.
+/// many chunks are needed. It isn't tried. Groups of 371 part at 99,799 and at 100,170. Groups of 1,307 part at 99,332 and at 100,639, so there is one task.
 const LEFT_OUT: Row<'static> = Row {
     source: (&[1000], Chunks::Regular(&[1000])),
     target: (&[100_600], Chunks::Regular(&[1])),
     region: None,
     at: &[99_503],
     bounds: &[
-        (1500, 0, "[349] 3000 false"),
-        (2000, 0, "[1047] 1000 false"),
+        (1500, 0, "[371] 3000 false"),
+        (2000, 0, "[1307] 1000 false"),
     ],
 };
 
@@ -719,8 +718,7 @@ fn check_inexact(
     Ok(())
 }
 
-/// The source is one chunk. Along each dimension 29 sizes differ in how many groups there are, from 211 of one chunk to one of 211. These make 29^5 choices,
-/// which are more than 2^24.
+/// The source is one chunk. The target has 211 chunks along each dimension, so there are 211^5 choices, which are more than 2^24.
 #[test]
 fn some_of_too_many_choices_are_left_out(rt: HostRuntime) -> Result<(), Fail> {
     let alloc = rt.alloc();

@@ -6,7 +6,7 @@ use Rattle.zarrs_chunk_base.specs.ArraySubset.{Box}
 use Rattle.zarrs_chunk_base.specs.Dimension.{Dimension}
 use Rattle.zarrs_chunks.specs.Subsets.{IsCover}
 
--- up to how many chunks along a dimension tasks are chosen, and up to how many they are counted in any case
+-- up to how many chunks along a dimension tasks are chosen in any case, and up to how many they are counted
 abbrev pub most_to_choose : ℕ
 most_to_choose = 131072
 

@@ -8,6 +8,7 @@ use Rattle.zarrs_chunk_base.specs.Refusal.{TellsLengths}
 use Rattle.zarrs_chunks.specs.Walks.{chunks_in, counted_from}
 use Rattle.zarrs_chunk_parts.specs.Plan.{HasAllOf, HasElement, IsPlan, Meets}
 use Rattle.zarrs_chunk_parts.specs.declared.part.Part.{Part}
+use Rattle.zarrs_chunk_plan.specs.ArrayBoxes.{array_box}
 use Rattle.zarrs_chunk_plan.specs.Region.{CanBeMoved, IsDestination, IsRegionFault, moved, shifted}
 use Rattle.zarrs_chunk_tasks.specs.Groups.{HoldsSomeOf, IsBuffer}
 use Rattle.zarrs_chunk_tasks.specs.declared.order.Order.{Order}
@@ -42,6 +43,10 @@ AreTasksByTarget target each region at = AreTasks target each (moved at region) 
 
 abbrev pub AreTasksBySource : (source : List Dimension) → (each : List ℕ) → (region : Box) → (at : List ℕ) → List Task → Type 0
 AreTasksBySource source each region at = AreTasks source each region region.start at
+
+-- A rechunking is the copy of a whole array to another one of its shape, by groups of the target's chunks. Each element keeps its index.
+abbrev pub AreTasksOfRechunking : (target : List Dimension) → (each : List ℕ) → List Task → Type 0
+AreTasksOfRechunking target each = AreTasksByTarget target each (array_box target) (array_box target).start
 
 -- by groups of the chunks of one of the two
 abbrev pub AreTasksBy : Order → (source target : List Dimension) → (each : List ℕ) → (region : Box) → (at : List ℕ) → List Task → Type 0

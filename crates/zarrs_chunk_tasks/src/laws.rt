@@ -12,7 +12,7 @@
 //! | If a task reads all that a chunk has of the array, no other task reads the chunk; and the same of writing | [`a_whole_chunk_is_in_one_task`] |
 //! | The copy the other way round has the same tasks | [`the_other_way_round_has_the_same_tasks`] |
 //! | An element that a task reads is written from the place of the buffer to which it was read | [`each_element_goes_by_the_buffer`] |
-//! | In a rechunking by groups of the target's chunks, each part that a task writes is whole | [`a_rechunking_writes_whole_chunks`] |
+//! | In a rechunking each part that a task writes is whole | [`a_rechunking_writes_whole_chunks`] |
 //! | What is counted of a task's box is what its plan reads or writes: its parts, and the elements of their chunks | [`counts_are_those_of_the_parts`] |
 //! | There is a list of tasks for each copy | [`there_are_tasks`] |
 //! | Tasks read no fewer chunks than their largest buffer allows | [`tasks_read_no_fewer`] |
@@ -23,12 +23,11 @@ ghost use Rattle.std.specs.List.{AllPairs, Contains, flat_map, range_with_len};
 ghost use Rattle.zarrs_chunk_base.specs.ArraySubset.{Box, IsBox};
 ghost use Rattle.zarrs_chunk_base.specs.Dimension.{array_sizes};
 ghost use Rattle.zarrs_chunk_parts.specs.Plan.{IsPlan, Meets};
-ghost use Rattle.zarrs_chunk_plan.specs.ArrayBoxes.{array_box};
 ghost use Rattle.zarrs_chunk_plan.specs.Region.{IsDestination, LiesIn, moved};
 ghost use Rattle.zarrs_chunk_plan.specs.Shares.{numbered_share};
 ghost use Rattle.zarrs_chunk_tasks.specs.Counts.{AreMet, parts_met};
 ghost use Rattle.zarrs_chunk_tasks.specs.Limits.{HasAtMost, HasPart, OfParts, ReadNoFewer};
-ghost use Rattle.zarrs_chunk_tasks.specs.Tasks.{AreTasks, AreTasksBy, AreTasksBySource, AreTasksByTarget, AreTheCopy, GoesByBoth, GoesByBuffer};
+ghost use Rattle.zarrs_chunk_tasks.specs.Tasks.{AreTasks, AreTasksBy, AreTasksBySource, AreTasksByTarget, AreTasksOfRechunking, AreTheCopy, GoesByBoth, GoesByBuffer};
 ghost use Rattle.zarrs_chunk_tasks.specs.Tasks.{HasAllAndSome, HasTasks, Moves, exchanged};
 ghost use Rattle.zarrs_chunk_tasks.specs.declared.order.Order.{Order as OrderValue};
 ghost use Rattle.zarrs_chunk_tasks.specs.seen.Tasks.{ArePlanned, AreTasksToCome, CanGive, GivesTask};
@@ -191,13 +190,12 @@ pub fn each_element_goes_by_the_buffer<
         → (index to : List ℕ) → Moves task index to → GoesByBuffer task from into index to }
 {}
 
-/// In a rechunking by groups of the target's chunks, each part that a task writes is whole, so no chunk of the target is read.
+/// In a rechunking each part that a task writes is whole, so no chunk of the target is read.
 pub fn a_rechunking_writes_whole_chunks<H: ChunkGridTraits, F: ChunkKeyEncodingTraits>(
     target: &StoredArray<H, F>,
 )
-    ensures { (each : List ℕ) (tasks : List Task) → AreTasksByTarget (H.dimensions target.now.grid)
-        each (array_box (H.dimensions target.now.grid))
-        (array_box (H.dimensions target.now.grid)).start tasks
+    ensures { (each : List ℕ) (tasks : List Task)
+        → AreTasksOfRechunking (H.dimensions target.now.grid) each tasks
         → (task : Task) → Contains tasks task → (parts : List Part)
         → IsPlan (H.dimensions target.now.grid) (F.is_key target.now.encoding) task.target parts
         → (part : Part) → Contains parts part → IsTrue part.whole }

@@ -79,15 +79,14 @@ fn first_last(last: u64, are_all: bool) -> u64
     }
 }
 
-/// A number that is greater by a sixteenth, but no greater than `most`.
-fn greater(number: u64, most: u64) -> u64
-    requires { number < most }
-    ensures greater { number < result }
+/// The last chunk of the first group, if groups take more chunks by a sixteenth, but it is no greater than `most`.
+fn greater(last: u64, most: u64) -> u64
+    requires { last < most }
+    ensures greater { last < result }
     ensures within { result ≤ most }
 {
-    number
-        .saturating_add((number / ONE_BY_ONE).max(1))
-        .min(most)
+    let more = (last + 1) / ONE_BY_ONE;
+    last.saturating_add(more.max(1)).min(most)
 }
 
 /// Returns the sizes of up to `most` chunks.

@@ -366,8 +366,10 @@ def many_chunks(chunkplan, generator, moves):
             expected = f"check_done.py: {of - left} of {of} chunks weren't done: {', '.join(map(str, range(left, left + 5)))}, ..\n"
             yield f"check_done.py {words[:1]}", (told.returncode, told.stderr) == (1, expected)
         told = tool("make_intermediate.py", *ends, room / "intermediate", "--max-elements", 4, **limits)
-        why, lines = "there are more than 131072 chunks along a dimension", len(told.stderr.splitlines())
-        yield "make_intermediate.py", (told.returncode, told.stdout, why in told.stderr, lines) == (1, "", True, 1)
+        read = [stage["chunks_read"] for stage in json.loads(told.stdout)["stages"]]
+        yield "make_intermediate.py", (told.returncode, told.stderr, read) == (0, "", [count])
+        told = tool("make_intermediate.py", *ends, room / "none", "--max-elements", 3, **limits)
+        yield "make_intermediate.py of 3", told.returncode == 1 and "raise it" in told.stderr and len(told.stderr.splitlines()) == 1
         told = tool("check_done.py", ends[1], room / "nothing", "--task-chunks", 2, **limits)
         yield "check_done.py of tasks", told.stderr == f"check_done.py: {count // 4} of {count // 4} tasks weren't done: 0, 2, 4, 6, 8, ..\n"
         yield "fingerprint.py", tool("fingerprint.py", ends[1], **limits).returncode == 0

@@ -100,10 +100,10 @@ pub enum RunFault {
     #[error("field `max_elements`: no tasks hold so few elements; raise it")]
     NoTasksFit,
     /// There are too many chunks to choose tasks.
-    #[error("there are more than 131072 chunks along a dimension, too many to choose tasks: give `task_chunks` in place of `max_elements`")]
+    #[error("field `max_elements`: more than 131072 chunks lie along a dimension that isn't regular; give `task_chunks` in its place")]
     TooManyToChoose,
     /// There are too many chunks to count tasks.
-    #[error("field `counts`: there are more than 1048576 chunks along a dimension, too many to count tasks")]
+    #[error("field `counts`: more than 1048576 chunks lie along a dimension that isn't regular; ask for the lines")]
     TooManyToCount,
     /// The lines of one stage are asked for, but the copy has several.
     #[error("the copy has several stages; ask for the lines of one with `stage`, or for `counts`, which lists them")]
