@@ -6,7 +6,7 @@ use Rattle.serde_json.specs.Find.{as_object, get}
 use Rattle.zarrs_chunk_base.specs.Json.{IsJsonOf, size_of, list_of}
 use Rattle.zarrs_chunk_base.specs.Metadata.{Extension, IsExtension, IsMetadataFault}
 use Rattle.documents.specs.Reading.{gives, optional, then}
-use Rattle.documents.specs.Stored.{Stored}
+use Rattle.documents.specs.StorageMetadata.{StorageMetadata}
 use Rattle.documents.specs.declared.document_fault.DocumentFault.{DocumentFault}
 use Rattle.documents.specs.declared.document_fault.DocumentFault.TheVariants.{NotJson, NotObject, Missing, WrongValue, Metadata}
 
@@ -57,7 +57,7 @@ extension_in name value (Err _) = ⊥
 
 -- How an array is stored: `chunk_grid` and `chunk_key_encoding`, which a fault calls by these names. Both have to be there, and then to be of
 -- their form.
-abbrev pub stored_in : (grid_name encoding_name : List ℕ) → Data → Result Stored DocumentFault → Type 0
+abbrev pub stored_in : (grid_name encoding_name : List ℕ) → Data → Result StorageMetadata DocumentFault → Type 0
 stored_in grid_name encoding_name d =
     then (required (codes "chunk_grid") grid_name d) (λ grid.
     then (required (codes "chunk_key_encoding") encoding_name d) (λ encoding.

@@ -1,4 +1,4 @@
 pub mod Document
 pub mod Reading
-pub mod Stored
+pub mod StorageMetadata
 pub mod chunkwhere

@@ -5,11 +5,11 @@ ghost use Rattle.serde_json.specs.View.{view};
 ghost use Rattle.zarrs_chunk_base.specs.Metadata.{extension_of};
 ghost use Rattle.documents.specs.Document.{extension_in, in_form as form_in, members_in, object_in, optional_in, required, shape_in, stored_in};
 ghost use Rattle.documents.specs.Reading.{IsRead, IsReadOr};
-ghost use Rattle.documents.specs.Stored.{stored_of};
+ghost use Rattle.documents.specs.StorageMetadata.{stored_of};
 ghost use Rattle.documents.specs.declared.document_fault.DocumentFault.TheVariants.{Memory};
 
 use crate::document_fault::DocumentFault;
-use crate::stored::Stored;
+use crate::storage_metadata::StorageMetadata;
 use serde_json::Value;
 use std::alloc::Global;
 use zarrs_chunk_base::{MetadataV3, Refusal, TreeForm, read_json, take_member};
@@ -109,7 +109,7 @@ pub fn take_stored(
     tree: &mut Value,
     grid_name: &'static str,
     encoding_name: &'static str,
-) -> Result<Stored, DocumentFault>
+) -> Result<StorageMetadata, DocumentFault>
     ensures stored { IsReadOr Memory stored_of
         (stored_in grid_name.now encoding_name.now (view tree.old)) result }
     ensures grid_gone { IfOk result (λ _. get (codes "chunk_grid") (view tree.new) ≡ None) }
@@ -121,7 +121,7 @@ pub fn take_stored(
 {
     let chunk_grid = take_required(tree, "chunk_grid", grid_name)?;
     let chunk_key_encoding = take_required(tree, "chunk_key_encoding", encoding_name)?;
-    Ok(Stored {
+    Ok(StorageMetadata {
         chunk_grid: metadata_of(alloc, chunk_grid, grid_name)?,
         chunk_key_encoding: metadata_of(alloc, chunk_key_encoding, encoding_name)?,
     })

@@ -4,16 +4,16 @@
 //! |---|---|
 //! | `chunkwhere` | where the elements of an array are stored |
 //! | `document`, `document_fault` | a document's object, and the members that say what an array is |
-//! | `stored` | how an array is stored: the grid and the encoding that its metadata give |
+//! | `storage_metadata` | how an array is stored: the grid and the encoding that its metadata give |
 #![tactic(auto)]
 
 pub mod chunkwhere;
 mod document;
 mod document_fault;
-mod stored;
+mod storage_metadata;
 
 pub use document::{
     check_members, optional_member, read_object, read_shape, required_member, take_stored,
 };
 pub use document_fault::DocumentFault;
-pub use stored::{CreateFault, Stored};
+pub use storage_metadata::{CreateFault, StorageMetadata};

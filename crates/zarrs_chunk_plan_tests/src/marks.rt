@@ -1,5 +1,5 @@
 //! Which chunks of a plan a store has. Chunks that the plan doesn't write are asked, too.
-use crate::rows::{Stored, check_text, row, some_of};
+use crate::rows::{OpenedArray, check_text, row, some_of};
 use std::alloc::Global;
 use std::process::Abort;
 use std::test::Fail;
@@ -7,14 +7,23 @@ use zarrs_chunk_base::{ArraySubset, StoreKey};
 use zarrs_chunk_plan::{StoredChunks, parts, whole_array};
 
 /// Of the chunks that hold some elements of an array none is stored yet.
-fn none_of(alloc: Global, array: &Stored, elements: &ArraySubset) -> Result<StoredChunks, Fail> {
+fn none_of(
+    alloc: Global,
+    array: &OpenedArray,
+    elements: &ArraySubset,
+) -> Result<StoredChunks, Fail> {
     let walk = parts(alloc, &array.grid, &array.encoding, elements)?.ok_or("no cover")?;
     let none = walk.none_stored(alloc)?;
     Ok(none.ok_or("too many")?)
 }
 
 /// Marks the chunk of a key. Tells whether it holds elements of the array.
-fn note(alloc: Global, stored: &mut StoredChunks, array: &Stored, key: &str) -> Result<bool, Fail> {
+fn note(
+    alloc: Global,
+    stored: &mut StoredChunks,
+    array: &OpenedArray,
+    key: &str,
+) -> Result<bool, Fail> {
     let key = StoreKey::new(String::from_str(alloc, key)?)?;
     Ok(stored.note(alloc, array, &key)?)
 }

@@ -9,7 +9,7 @@ use zarrs_chunk_plan::{Part, StoredArray};
 use zarrs_chunks::RegularChunkGrid;
 
 /// An array in a regular grid, under default keys with slashes.
-pub(crate) type Stored = StoredArray<RegularChunkGrid, DefaultChunkKeyEncoding>;
+pub(crate) type OpenedArray = StoredArray<RegularChunkGrid, DefaultChunkKeyEncoding>;
 
 /// A chunk of so many elements along the last of five dimensions.
 pub(crate) fn edges_of(alloc: Global, edge: u64) -> Result<ChunkShape, Fail> {
@@ -19,7 +19,7 @@ pub(crate) fn edges_of(alloc: Global, edge: u64) -> Result<ChunkShape, Fail> {
 }
 
 /// A row of so many elements, in chunks of so many.
-pub(crate) fn row(alloc: Global, elements: u64, edge: u64) -> Result<Stored, Fail> {
+pub(crate) fn row(alloc: Global, elements: u64, edge: u64) -> Result<OpenedArray, Fail> {
     let array_shape = [1, 1, 1, 1, elements].to_vec(alloc)?;
     Ok(StoredArray {
         grid: RegularChunkGrid::new(alloc, array_shape, edges_of(alloc, edge)?)?,

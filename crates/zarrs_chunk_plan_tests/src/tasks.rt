@@ -1,5 +1,5 @@
 //! The tasks of a copy: their boxes, walks that go to any task, and what is refused.
-use crate::rows::{Stored, check_text, edges_of, row, some_of};
+use crate::rows::{OpenedArray, check_text, edges_of, row, some_of};
 use std::alloc::Global;
 use std::num::NonZeroU64;
 use std::process::Abort;
@@ -44,7 +44,7 @@ fn lines_of(alloc: Global, walk: &mut Tasks<'_, RegularChunkGrid>) -> Result<Str
 }
 
 /// Twelve elements in chunks of four, and nine in chunks of three.
-pub(crate) fn two_rows(alloc: Global) -> Result<(Stored, Stored), Fail> {
+pub(crate) fn two_rows(alloc: Global) -> Result<(OpenedArray, OpenedArray), Fail> {
     Ok((row(alloc, 12, 4)?, row(alloc, 9, 3)?))
 }
 

@@ -1,5 +1,5 @@
 //! Walks that stay ended, after an error too, and walks that go to any part.
-use crate::rows::{Stored, append_part, check_text, row, some_of};
+use crate::rows::{OpenedArray, append_part, check_text, row, some_of};
 use std::alloc::Global;
 use std::process::Abort;
 use std::test::Fail;
@@ -10,7 +10,7 @@ use zarrs_chunks::RegularChunkGrid;
 type Walk<'a> = Parts<'a, RegularChunkGrid, DefaultChunkKeyEncoding>;
 
 /// The walk over the parts of so many elements of a row, from one on.
-fn walk_over(alloc: Global, array: &Stored, first: u64, count: u64) -> Result<Walk<'_>, Fail> {
+fn walk_over(alloc: Global, array: &OpenedArray, first: u64, count: u64) -> Result<Walk<'_>, Fail> {
     let subset = some_of(alloc, first, count)?;
     Ok(parts(alloc, &array.grid, &array.encoding, &subset)?.ok_or("no cover")?)
 }

@@ -13,7 +13,7 @@ use Rattle.zarrs_chunk_plan.specs.seen.Parts.{HasKeys, IsPlanned, chunks_to_come
 use Rattle.zarrs_chunk_plan.proofs.ShareLists.{both_zipped}
 use Rattle.zarrs_chunk_plan.proofs.SomePlan.{have_parts}
 use Rattle.zarrs_chunk_plan.proofs.Walked.{HaveCome, at_first, plan_of, planned_meet}
-use Rattle.zarrs_chunk_questions.specs.seen.Copies.{PartsToCome, Stored, dimensions_in, key_in}
+use Rattle.zarrs_chunk_questions.specs.seen.Copies.{PartsToCome, OpenedArray, dimensions_in, key_in}
 
 pub keys_in : (encoding : ChunkKeyEncoding) → HasKeys (key_in encoding)
 keys_in encoding = has_key (encoding_in encoding)
@@ -42,7 +42,7 @@ as_many_parts begin now came many is_box have enough =
 
 -- ---- of the walk over a box of an array
 
-module _ (array : Stored) (b : Box) (walk : Parts ChunkGrid ChunkKeyEncoding) (planned : IsPlanned dimensions_in array.grid array.encoding b walk) where
+module _ (array : OpenedArray) (b : Box) (walk : Parts ChunkGrid ChunkKeyEncoding) (planned : IsPlanned dimensions_in array.grid array.encoding b walk) where
   pub its_plan : (parts : List Part) → PartsToCome walk parts → IsPlan (dimensions_in array.grid) (key_in array.encoding) b parts
   its_plan parts are =
       plan_of dimensions_in key_in array.grid array.encoding b planned.cover walk parts planned.about planned.is_cover planned.left are

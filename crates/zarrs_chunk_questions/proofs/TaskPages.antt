@@ -21,7 +21,7 @@ use Rattle.zarrs_chunk_tasks.proofs.TasksBegun.{TasksHaveCome, tasks_ahead, zip_
 use Rattle.zarrs_chunk_questions.specs.Pages.{count_of, is_more, page_tree}
 use Rattle.zarrs_chunk_questions.specs.Tasks.{HasTasksOf, IsTasksAnswer, source_dimensions, task_tree}
 use Rattle.zarrs_chunk_questions.specs.declared.copying.Copying.{Copying}
-use Rattle.zarrs_chunk_questions.specs.seen.Copies.{GivesTasksOf, HasPartsBetween, HavePlans, IsPlanOf, Stored, copy_of, dimensions_in, key_in, parts_in, parts_of}
+use Rattle.zarrs_chunk_questions.specs.seen.Copies.{GivesTasksOf, HasPartsBetween, HavePlans, IsPlanOf, OpenedArray, copy_of, dimensions_in, key_in, parts_in, parts_of}
 use Rattle.zarrs_chunk_questions.proofs.Lengths.{text_long}
 use Rattle.zarrs_chunk_questions.proofs.Listed.{all_behind}
 use Rattle.zarrs_chunk_questions.proofs.LongPages.{long_tasks, part_least}
@@ -77,7 +77,7 @@ parts_taken zero (plan ∷ plans) more few = absurd (omega arith)
 parts_taken (suc n) (plan ∷ plans) more few = let rest = parts_taken n plans more (omega arith) in omega arith
 
 -- of a walk that has given tasks, at most so many, those that are asked for have as many parts
-pub as_many_plans : (source target : Stored) (begin now : Tasks ChunkGrid) (plans : List TaskPlan) (most many : ℕ)
+pub as_many_plans : (source target : OpenedArray) (begin now : Tasks ChunkGrid) (plans : List TaskPlan) (most many : ℕ)
     → HavePlans source target begin (groups_to_come begin) → TasksHaveCome dimensions_in key_in source target begin now plans
     → length plans ≤ most → many ≤ parts_in plans
     → (all : List TaskPlan) × AllZip (IsPlanOf source target begin) (take most (groups_to_come begin)) all × (many ≤ parts_in all)

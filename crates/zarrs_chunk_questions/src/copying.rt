@@ -24,13 +24,13 @@ use zarrs_chunk_tasks::{Order, Tasks, at_or_zeros, task_chunks_or_ones, tasks_by
 use zarrs_chunks::{ChunkGrid, ChunkGridTraits};
 
 /// An array as it is stored, by metadata.
-pub(crate) type Stored = StoredArray<ChunkGrid, ChunkKeyEncoding>;
+pub(crate) type OpenedArray = StoredArray<ChunkGrid, ChunkKeyEncoding>;
 
 /// A copy that a question is about: a region of one array goes to another one, by tasks.
 #[derive(Drop)]
 pub(crate) struct Copying {
-    pub(crate) source: Stored,
-    pub(crate) target: Stored,
+    pub(crate) source: OpenedArray,
+    pub(crate) target: OpenedArray,
     /// The elements that are copied, as a box of the source's array.
     pub(crate) region: ArraySubset,
     /// The index in the target's array at which they begin.
@@ -132,7 +132,7 @@ fn make_target(
     chunk_grid: &Value,
     chunk_key_encoding: &Value,
     shape: &[u64],
-) -> Result<Stored, Refusal<LineFault>>
+) -> Result<OpenedArray, Refusal<LineFault>>
     ensures { MatchResult result
         (IsStoredIn (view chunk_grid.now) (view chunk_key_encoding.now) shape.now)
         (OrMemory (IsNoStored (view chunk_grid.now) (view chunk_key_encoding.now) shape.now)) }

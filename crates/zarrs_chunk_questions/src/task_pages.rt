@@ -12,7 +12,7 @@ ghost use Rattle.zarrs_chunk_questions.specs.Tasks.{IsTasksAnswer, source_dimens
 ghost use Rattle.zarrs_chunk_questions.specs.seen.Copies.{CanGiveParts, HasPartsBetween, HavePlans, IsPlanOf, PartsToCome, copy_of, dimensions_in, parts_in, parts_of};
 ghost use Rattle.zarrs_chunk_questions.specs.seen.Lines.{IsGiven};
 
-use crate::copying::{Copying, Stored};
+use crate::copying::{Copying, OpenedArray};
 use crate::limits::Limits;
 use crate::line_fault::LineFault;
 use crate::pages::page_tree;
@@ -61,8 +61,8 @@ pub(crate) fn tasks_from(
 /// Out of memory.
 fn task_trees(
     alloc: Global,
-    source: &Stored,
-    target: &Stored,
+    source: &OpenedArray,
+    target: &OpenedArray,
     walk: &mut Tasks<'_, ChunkGrid>,
     most: usize,
     too_many: u128,
@@ -97,8 +97,8 @@ fn task_trees(
 /// Out of memory.
 fn tree_of(
     alloc: Global,
-    source: &Stored,
-    target: &Stored,
+    source: &OpenedArray,
+    target: &OpenedArray,
     task: &Task,
     too_many: u128,
 ) -> Result<Option<(Value, u128)>, AllocError>

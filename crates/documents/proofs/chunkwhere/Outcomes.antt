@@ -9,8 +9,8 @@ use Rattle.documents.specs.declared.chunkwhere.run_fault.RunFault.{RunFault}
 use Rattle.documents.specs.declared.chunkwhere.run_fault.RunFault.TheVariants.{Memory, Read, Write}
 use Rattle.documents.specs.declared.document_fault.DocumentFault.{DocumentFault}
 use Rattle.documents.specs.declared.document_fault.DocumentFault.TheVariants.{Memory as NoMemory, Metadata, Missing, NotJson, NotObject, WrongValue}
-use Rattle.documents.specs.declared.stored.CreateFault.{CreateFault}
-use Rattle.documents.specs.declared.stored.CreateFault.TheVariants.{Encoding, Grid, Memory as NoRoom}
+use Rattle.documents.specs.declared.storage_metadata.CreateFault.{CreateFault}
+use Rattle.documents.specs.declared.storage_metadata.CreateFault.TheVariants.{Encoding, Grid, Memory as NoRoom}
 use Rattle.streams.specs.declared.stream_fault.StreamFault.{StreamFault}
 use Rattle.streams.specs.declared.stream_fault.StreamFault.TheVariants.{Memory as NoMoreMemory, Read as ReadFailed, Write as WriteFailed}
 

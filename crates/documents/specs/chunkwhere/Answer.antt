@@ -7,7 +7,7 @@ use Rattle.zarrs_chunk_base.specs.Refusal.{TellsLengths}
 use Rattle.zarrs_chunk_base.specs.declared.incompatible_dimensionality_error.IncompatibleDimensionalityError.{IncompatibleDimensionalityError}
 use Rattle.zarrs_chunk_keys.specs.ChunkKey.{Encoding, IsKey}
 use Rattle.documents.specs.Reading.{then, told}
-use Rattle.documents.specs.Stored.{array_of}
+use Rattle.documents.specs.StorageMetadata.{array_of}
 use Rattle.documents.specs.chunkwhere.Document.{Document}
 use Rattle.documents.specs.chunkwhere.Output.{IsOutput}
 use Rattle.documents.specs.chunkwhere.RunFault.{of_create}

@@ -8,14 +8,14 @@ use Rattle.serde_json.specs.declared.value.Value.{Value}
 use Rattle.zarrs_chunk_base.specs.Json.{size_of, list_of}
 use Rattle.documents.specs.Document.{in_form, members_in, object_in, required, shape_in, stored_in}
 use Rattle.documents.specs.Reading.{gives, then}
-use Rattle.documents.specs.Stored.{Stored, stored_of}
+use Rattle.documents.specs.StorageMetadata.{StorageMetadata, stored_of}
 use Rattle.documents.specs.declared.chunkwhere.document.Document.{Document as DocumentValue}
 use Rattle.documents.specs.declared.document_fault.DocumentFault.{DocumentFault}
 
 -- a document, without where it lies in memory
 pub record Document : Type 0 where
   pub shape : List ℕ
-  pub stored : Stored
+  pub stored : StorageMetadata
   pub indices : List (List ℕ)
   pub keys : List (List ℕ)
 

@@ -1,8 +1,8 @@
 -- The faults of what the programs share, as a run of this program tells them.
 use Rattle.documents.specs.declared.document_fault.DocumentFault.{DocumentFault}
 use Rattle.documents.specs.declared.document_fault.DocumentFault.TheVariants as document
-use Rattle.documents.specs.declared.stored.CreateFault.{CreateFault}
-use Rattle.documents.specs.declared.stored.CreateFault.TheVariants as create
+use Rattle.documents.specs.declared.storage_metadata.CreateFault.{CreateFault}
+use Rattle.documents.specs.declared.storage_metadata.CreateFault.TheVariants as create
 use Rattle.streams.specs.declared.stream_fault.StreamFault.{StreamFault}
 use Rattle.streams.specs.declared.stream_fault.StreamFault.TheVariants as stream
 use Rattle.documents.specs.declared.chunkwhere.run_fault.RunFault.{RunFault}

@@ -7,7 +7,7 @@ ghost use Rattle.documents.specs.declared.document_fault.DocumentFault.TheVarian
 
 use crate::document::{check_members, read_object, read_shape, required_member, take_stored};
 use crate::document_fault::DocumentFault;
-use crate::stored::Stored;
+use crate::storage_metadata::StorageMetadata;
 use serde_json::Value;
 use std::alloc::{AllocError, Global};
 use zarrs_chunk_base::{TreeForm, read_list};
@@ -16,7 +16,7 @@ use zarrs_chunk_base::{TreeForm, read_list};
 #[derive(Drop)]
 pub(crate) struct Document {
     pub(crate) shape: Vec<u64>,
-    pub(crate) stored: Stored,
+    pub(crate) stored: StorageMetadata,
     /// The index lists, as they stand in the tree of the document.
     pub(crate) indices: Vec<Value>,
     /// The texts that may be keys of chunks.

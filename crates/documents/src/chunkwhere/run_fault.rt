@@ -4,7 +4,7 @@ ghost use Rattle.documents.specs.chunkwhere.RunFault.{of_document, of_create, of
 ghost use Rattle.documents.specs.declared.chunkwhere.run_fault.RunFault.TheVariants.{Memory};
 
 use crate::document_fault::DocumentFault;
-use crate::stored::CreateFault;
+use crate::storage_metadata::CreateFault;
 use std::alloc::AllocError;
 use streams::StreamFault;
 use thiserror::Error;

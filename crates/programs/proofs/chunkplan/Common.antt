@@ -1,7 +1,7 @@
 -- What many of the proofs import, in one place.
 pub use Rattle.documents.proofs.Readings.{both, later, stops_or, stops_told}
 pub use Rattle.documents.specs.Reading.{gives, optional, then, told}
-pub use Rattle.documents.specs.Stored.{Stored, stored_of}
+pub use Rattle.documents.specs.StorageMetadata.{StorageMetadata, stored_of}
 pub use Rattle.documents.specs.declared.document_fault.DocumentFault.{DocumentFault}
 pub use Rattle.json.specs.Print.{begins, ends, print, separator}
 pub use Rattle.json.specs.Token.{Token, begin_array, begin_object, boolean, end_array, end_object, key, number, string}

@@ -1,6 +1,6 @@
 -- What a document before keys asks for.
 use Rattle.programs.proofs.chunkplan.Common.{◌≡◌, ◌∙◌, ℕ, true, false, Contains, IsFalse, IsSome, List, Option, None, Some, Ok, codes, refl, arith}
-use Rattle.programs.proofs.chunkplan.Common.{sym, true≢false, All-contains, All-from_recursion, same_Some, Data, get, Share, optional, Stored}
+use Rattle.programs.proofs.chunkplan.Common.{sym, true≢false, All-contains, All-from_recursion, same_Some, Data, get, Share, optional, StorageMetadata}
 use Rattle.programs.proofs.chunkplan.Common.{AsksForLinesOfCopy, Copying, Document, Task, Wanted, copy_to, document_in, flag_in}
 use Rattle.programs.proofs.chunkplan.Common.{lines_wanted, rechunking_in, region_in, task_in, wanted_in, HasKeysBehind, Fit}
 use Rattle.programs.proofs.chunkplan.Common.{Rule, excludes, is_broken, needs}
@@ -35,7 +35,7 @@ are_lines d wanted (counts, flag, by) none =
 
 -- the task is a copy
 abbrev IsCopy : Task → Type 0
-IsCopy task = (stored : Stored) × (copied : Copying) × (task ≡ copy_to stored copied)
+IsCopy task = (stored : StorageMetadata) × (copied : Copying) × (task ≡ copy_to stored copied)
 
 module _ (d : Data) (task : Task) where
   to_target : (target : Data) (subset : Option Data) → optional (rechunking_in d target) (region_in d target) subset (Ok task) → IsCopy task

@@ -1,6 +1,6 @@
 -- What was taken out of a document leaves the other members.
 use Rattle.programs.proofs.chunkplan.Common.{◌≡◌, ◌≢◌, ◌∙◌, ℕ, false, List, Option, None, Some, Result, Ok, Err, ap, arith, bytes_eq, codes, inl, inr}
-use Rattle.programs.proofs.chunkplan.Common.{length, refl, subst, Data, get, Box, edge_of, list_of, size_of, gives, optional, then, told, Stored}
+use Rattle.programs.proofs.chunkplan.Common.{length, refl, subst, Data, get, Box, edge_of, list_of, size_of, gives, optional, then, told, StorageMetadata}
 use Rattle.programs.proofs.chunkplan.Common.{DocumentFault, RangesWanted, Task, TaskChoice, choice_by, choice_in, copy_to, copying_in, into_box, of_array, ranges_by, ranges_in}
 use Rattle.programs.proofs.chunkplan.Common.{rechunking_in, box_in, flag_in, object_of, of_region, read_of, region_in, target_stored_in, task_by, task_in}
 use Rattle.programs.proofs.chunkplan.Common.{of_document, RunFault}
@@ -65,13 +65,13 @@ module _ (d left : Data)
       (λ stored. then_moves (λ d. told of_document (choice_in d)) (λ d choice. of_chunks stored choice d) (told_moves of_document choice_in choice_left)
       (λ choice. then_moves (box_in (codes "chunks")) (λ _. last stored choice) (λ r is. rw (kept (codes "chunks") refl refl refl) at is) (λ chunks r is. is))))
     where
-      last : (stored : Stored) → TaskChoice → Option Box → Result Task RunFault → Type 0
+      last : (stored : StorageMetadata) → TaskChoice → Option Box → Result Task RunFault → Type 0
       last stored choice chunks = gives (copy_to stored (record { choice = choice; selection = into_box chunks }))
 
-      of_chunks : (stored : Stored) → TaskChoice → Data → Result Task RunFault → Type 0
+      of_chunks : (stored : StorageMetadata) → TaskChoice → Data → Result Task RunFault → Type 0
       of_chunks stored choice d = then (box_in (codes "chunks") d) (last stored choice)
 
-      of_choice : (stored : Stored) → Data → Result Task RunFault → Type 0
+      of_choice : (stored : StorageMetadata) → Data → Result Task RunFault → Type 0
       of_choice stored d = then (told of_document (choice_in d)) (λ choice. of_chunks stored choice d)
 
       of_stored : Data → Result Task RunFault → Type 0
@@ -88,18 +88,18 @@ module _ (d left : Data)
       (λ at. then_moves (λ d. told of_document (choice_in d)) (λ _. last shape stored elements at) (told_moves of_document choice_in choice_left)
       (λ choice r is. is))))))
     where
-      last : (shape : List ℕ) (stored : Stored) (elements : Box) (at : Option (List ℕ)) → TaskChoice → Result Task RunFault → Type 0
+      last : (shape : List ℕ) (stored : StorageMetadata) (elements : Box) (at : Option (List ℕ)) → TaskChoice → Result Task RunFault → Type 0
       last shape stored elements at choice =
           gives (copy_to stored (record { choice = choice; selection = of_region (record { shape = shape; elements = elements; at = at }) }))
 
-      of_choice : (shape : List ℕ) (stored : Stored) (elements : Box) (at : Option (List ℕ)) → Data → Result Task RunFault → Type 0
+      of_choice : (shape : List ℕ) (stored : StorageMetadata) (elements : Box) (at : Option (List ℕ)) → Data → Result Task RunFault → Type 0
       of_choice shape stored elements at d = then (told of_document (choice_in d)) (last shape stored elements at)
 
-      of_index : (shape : List ℕ) (stored : Stored) (elements : Box) → Data → Result Task RunFault → Type 0
+      of_index : (shape : List ℕ) (stored : StorageMetadata) (elements : Box) → Data → Result Task RunFault → Type 0
       of_index shape stored elements d =
           then (told of_document (optional_in (list_of size_of) (codes "at") d)) (λ at. of_choice shape stored elements at d)
 
-      of_elements : (shape : List ℕ) (stored : Stored) → Data → Result Task RunFault → Type 0
+      of_elements : (shape : List ℕ) (stored : StorageMetadata) → Data → Result Task RunFault → Type 0
       of_elements shape stored d = then (box_of (codes "subset") subset) (λ elements. of_index shape stored elements d)
 
       of_stored : (shape : List ℕ) → Data → Result Task RunFault → Type 0

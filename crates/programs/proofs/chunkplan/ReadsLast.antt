@@ -1,6 +1,6 @@
 -- When a step reads that sends the text of a plan.
 use Rattle.programs.proofs.chunkplan.Common.{◌≡◌, ◌≢◌, ℕ, List, refl, IsErrAnd, Result, Ok, Err, Share, then, Document}
-use Rattle.programs.proofs.chunkplan.Common.{Stored, Copying, copy_to, lines_wanted, RunFault, Read}
+use Rattle.programs.proofs.chunkplan.Common.{StorageMetadata, Copying, copy_to, lines_wanted, RunFault, Read}
 use Rattle.programs.specs.chunkplan.Planned.{Array, beside_by, copy_beside, source_in, target_in, target_shape, text_beside}
 use Rattle.programs.specs.chunkplan.seen.Reads.{ReadFailsAfter}
 use Rattle.programs.proofs.chunkplan.Exits.{handed}
@@ -32,7 +32,7 @@ pub fails_later : {X : Type 0} (first : Result X RunFault → Type 0) (next : X 
 fails_later first next x is = fails_follow (next x) (then first next) (λ text made. (x, is, made))
 
 -- what a document asks for of it
-pub fails_of_share : (document : Document) (source : Array) (stored : Stored) (copying : Copying) (share : Share) → source_in document (Ok source)
+pub fails_of_share : (document : Document) (source : Array) (stored : StorageMetadata) (copying : Copying) (share : Share) → source_in document (Ok source)
     → document.task ≡ copy_to stored copying → document.wanted ≡ lines_wanted share → (bytes : List ℕ) (r : Result (Unit {0}) RunFault)
     → ReadFailsAfter (then (target_in stored (target_shape copying.selection document.shape)) (copy_beside copying share bytes source)) r
     → ReadFailsAfter (text_beside document bytes) r

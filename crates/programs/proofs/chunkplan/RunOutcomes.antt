@@ -1,6 +1,6 @@
 -- The outcomes of a run, put together from its steps.
 use Rattle.programs.proofs.chunkplan.Common.{◌≡◌, ◌≢◌, ◌⊎◌, ◌∙◌, ℕ, Bool, true, false, List, [], ◌++◌, Option, None, Some, Result, Ok, Err, append_assoc, ap}
-use Rattle.programs.proofs.chunkplan.Common.{arith, inl, inr, refl, sym, true≢false, ⊎_elim, Data, Box, then, Stored, Document, Task, Wanted, copying_in}
+use Rattle.programs.proofs.chunkplan.Common.{arith, inl, inr, refl, sym, true≢false, ⊎_elim, Data, Box, then, StorageMetadata, Document, Task, Wanted, copying_in}
 use Rattle.programs.proofs.chunkplan.Common.{document_in, form_in, rechunking_in, region_in, Copying, Selection, all_elements, copy_to, counts_wanted}
 use Rattle.programs.proofs.chunkplan.Common.{into_chunks, lines_wanted, of_region, read_of, resize_to, TaskChoice, behind_first, first_line, of_create}
 use Rattle.programs.proofs.chunkplan.Common.{of_document, of_stream, of_target, Output, RunFault, Memory, Read, TooManyForKeys, Write, DocumentFault, StreamFault}
@@ -17,7 +17,7 @@ use Rattle.programs.specs.chunkplan.Run.{FailsAfterDocument, HasBegunPlan, RunLe
 use Rattle.programs.specs.chunkplan.RunFault.{of_region as of_region_error, of_tasks}
 use Rattle.programs.specs.chunkplan.Stages.{IsFaultOfSome, IsStageFault, Stage, Stages, asked_in, number_asked, plans_in, stages_in}
 use Rattle.programs.specs.chunkplan.seen.Steps.{HasBegun, InputStepLeaves}
-use Rattle.documents.specs.declared.stored.CreateFault.{CreateFault}
+use Rattle.documents.specs.declared.storage_metadata.CreateFault.{CreateFault}
 use Rattle.streams.specs.declared.stream_fault.StreamFault.TheVariants.{Write as WriteFailed}
 
 -- ---- a fault of an input is none of reading or writing
@@ -74,7 +74,7 @@ then_still first next here there fault (inr (x, _, is)) = there x fault is
 pub source_still : (document : Document) → Still (λ fault. source_in document (Err fault))
 source_still document fault (told, _, same) = ap moves same ∙ of_create_still told
 
-pub target_still : (stored : Stored) (shape : List ℕ) → Still (λ fault. target_in stored shape (Err fault))
+pub target_still : (stored : StorageMetadata) (shape : List ℕ) → Still (λ fault. target_in stored shape (Err fault))
 target_still stored shape fault (told, _, same) = ap moves same ∙ of_target_still told
 
 -- ---- of a document

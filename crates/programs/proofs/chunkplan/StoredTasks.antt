@@ -1,7 +1,7 @@
 -- What a store hasn't of the tasks of a stage, by the keys that were noted.
 use Rattle.programs.proofs.chunkplan.Common.{◌≡◌, ◌↔◌, ◌<◌, ◌^◌, ◌++◌, ℕ, Contains, IsTrue, List, [], ◌∷◌, Some, Ok, Option, Bool, Result, AllByRecursion, AllZip}
 use Rattle.programs.proofs.chunkplan.Common.{ap, arith, length, map, refl, subst, suc, sym, Box, Dimension, IsInside, IsPart, IsPlan, Part, moved}
-use Rattle.programs.proofs.chunkplan.Common.{IsListed, Share, StoredChunks, Knows, TaskPlan, chained_in, then, Stored, Copying, Document, copy_to, lines_wanted}
+use Rattle.programs.proofs.chunkplan.Common.{IsListed, Share, StoredChunks, Knows, TaskPlan, chained_in, then, StorageMetadata, Copying, Document, copy_to, lines_wanted}
 use Rattle.programs.proofs.chunkplan.Common.{AsStoreKey, IsMissingText, IsThere, TellsDone, RunFault, Output, Meets}
 use Rattle.zarrs_chunks.specs.Walks.{chunks_in}
 use Rattle.zarrs_chunks.proofs.ChunksInBoxes.{are_those_inside}
@@ -141,7 +141,7 @@ module _ (stage : StageValue) (cover : Box) (covers : Covers (dimensions_of stag
 
 -- ---- what a document asks for of a copy
 
-pub of_share : (document : Document) (source : Array) (stored : Stored) (copying : Copying) (share : Share) → source_in document (Ok source)
+pub of_share : (document : Document) (source : Array) (stored : StorageMetadata) (copying : Copying) (share : Share) → source_in document (Ok source)
     → document.task ≡ copy_to stored copying → document.wanted ≡ lines_wanted share → (bytes : List ℕ) (start read : Bool) (left : Option (List ℕ))
     (before after : Output) (r : Result (Unit {0}) RunFault)
     → ReadLeaves (then (target_in stored (target_shape copying.selection document.shape)) (copy_beside copying share bytes source)) r start read left before after

@@ -1,7 +1,7 @@
 -- What many of the definitions and the contracts import, in one place. Operators each file takes from std itself.
 pub use Rattle.documents.specs.Document.{in_form_or, optional_in}
 pub use Rattle.documents.specs.Reading.{IsRead, IsReadOr, gives, made_of, optional, then, told}
-pub use Rattle.documents.specs.Stored.{Stored, array_of, stored_of}
+pub use Rattle.documents.specs.StorageMetadata.{StorageMetadata, array_of, stored_of}
 pub use Rattle.documents.specs.declared.document_fault.DocumentFault.{DocumentFault}
 pub use Rattle.json.specs.Json.{Items, Json, Members, array, item, member, no_items, no_members, null, number, object, string}
 pub use Rattle.json.specs.Print.{print}

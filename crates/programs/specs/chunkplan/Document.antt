@@ -7,7 +7,7 @@
 use Rattle.std.specs.Prelude.{◌≡◌, ◌^◌, ◌≤◌}
 use Rattle.programs.specs.chunkplan.Common.{ℕ, Bool, true, false, cond, IsSome, IsTrue, List, Option, Some, None, Result, Ok, Err, bytes_eq, codes}
 use Rattle.programs.specs.chunkplan.Common.{map, nat_lt, option_and_then, option_map, Data, as_bool, as_object, as_str, get, Box, IsBox, edge_of, list_of}
-use Rattle.programs.specs.chunkplan.Common.{pair_of, size_of, MemoryOrder, Share, order_in, gives, optional, then, told, Stored, stored_of}
+use Rattle.programs.specs.chunkplan.Common.{pair_of, size_of, MemoryOrder, Share, order_in, gives, optional, then, told, StorageMetadata, stored_of}
 use Rattle.programs.specs.chunkplan.Common.{DocumentFault, UnknownMember, Order, Source, Target, RunFault}
 use Rattle.std.specs.Int.NonZero.{non_zero_u64_get}
 use Rattle.zarrs_chunk_base.specs.ArraySubsetError.{IsBoxFault}
@@ -65,7 +65,7 @@ pub record Copying : Type 0 where
 -- array that is stored in some way. Or it is a resize of the array to another shape, with or without the chunks that stay as they are stored.
 pub data Task : Type 0 where
   read_of : Option Box → (clip : Bool) → Option RangesWanted → Task
-  copy_to : Stored → Copying → Task
+  copy_to : StorageMetadata → Copying → Task
   resize_to : (shape : List ℕ) → (include_unchanged : Bool) → Task
 
 -- what is wanted of the plan: the lines of a share, or its counts
@@ -78,7 +78,7 @@ pub record Document : Type 0 where
   pub shape : List ℕ
   pub wanted : Wanted
   pub keys : Bool
-  pub stored : Stored
+  pub stored : StorageMetadata
   pub task : Task
 
 -- what a value of the program stands for
@@ -244,7 +244,7 @@ of_array d target =
     agree_in fault.OtherDataType (codes "data_type") d target))
 
 -- how it is stored
-abbrev pub target_stored_in : Data → Result Stored DocumentFault → Type 0
+abbrev pub target_stored_in : Data → Result StorageMetadata DocumentFault → Type 0
 target_stored_in = stored_in (codes "target.chunk_grid") (codes "target.chunk_key_encoding")
 
 -- ---- what is asked for
@@ -316,4 +316,4 @@ document_in input = then (told of_document (object_in input)) form_in
 -- the lines of a copy are asked for
 abbrev pub AsksForLinesOfCopy : Document → Type 0
 AsksForLinesOfCopy document = ((share : Share) × (document.wanted ≡ lines_wanted share))
-    × ((stored : Stored) × (copied : Copying) × (document.task ≡ copy_to stored copied))
+    × ((stored : StorageMetadata) × (copied : Copying) × (document.task ≡ copy_to stored copied))

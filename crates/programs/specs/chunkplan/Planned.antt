@@ -3,7 +3,7 @@ use Rattle.std.specs.Prelude.{◌≡◌, ◌≢◌, ◌⊎◌}
 use Rattle.programs.specs.chunkplan.Common.{ℕ, Bool, true, false, List, length, Option, Result, Ok, Err, replicate}
 use Rattle.programs.specs.chunkplan.Common.{unwrap_or, Box, IsEmptyBox, lasts, Dimension, IsKey, IsGrid, IsGridFault, AreElementsOf, AreReadCounts}
 use Rattle.programs.specs.chunkplan.Common.{array_box, ReadCounts, Part, ChunkChange, Share, TaskPlan, made_of, then}
-use Rattle.programs.specs.chunkplan.Common.{told, Stored, array_of, RunFault, ChunksDimensionality}
+use Rattle.programs.specs.chunkplan.Common.{told, StorageMetadata, array_of, RunFault, ChunksDimensionality}
 use Rattle.programs.specs.chunkplan.Common.{KeysOfLongDocument, NotJson, ResizedGrid, SubsetDimensionality, Uncovered}
 use Rattle.zarrs_chunk_base.specs.Grid.{Grid}
 use Rattle.zarrs_chunk_base.specs.Refusal.{TellsLengths}
@@ -28,7 +28,7 @@ Array = Grid × Encoding
 abbrev pub source_in : Document → Result Array RunFault → Type 0
 source_in document = told of_create (array_of document.stored document.shape)
 
-abbrev pub target_in : Stored → (shape : List ℕ) → Result Array RunFault → Type 0
+abbrev pub target_in : StorageMetadata → (shape : List ℕ) → Result Array RunFault → Type 0
 target_in stored shape = told of_target (array_of stored shape)
 
 -- ---- a read
@@ -130,7 +130,7 @@ target_shape _ own = own
 -- ---- a resize
 
 -- the grid of the new shape, which the array's metadata make, or why they make none
-abbrev pub resized_in : Stored → (shape : List ℕ) → Result Grid RunFault → Type 0
+abbrev pub resized_in : StorageMetadata → (shape : List ℕ) → Result Grid RunFault → Type 0
 resized_in stored shape (Ok grid) = IsGrid stored.chunk_grid shape grid
 resized_in stored shape (Err (ResizedGrid error)) = IsGridFault stored.chunk_grid shape error
 resized_in stored shape (Err _) = ⊥

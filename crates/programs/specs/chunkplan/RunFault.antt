@@ -3,12 +3,12 @@ use Rattle.programs.specs.chunkplan.Common.{Bool, true, false, RegionError, Docu
 use Rattle.programs.specs.chunkplan.Common.{Metadata, Missing, NotJson, NotObject, PastArray, PastTarget, Read, SubsetDimensionality}
 use Rattle.programs.specs.chunkplan.Common.{TargetDimensionality, TargetEncoding, TargetGrid, TaskChunks, TasksError, Write, WrongValue}
 use Rattle.zarrs_chunk_base.specs.declared.refusal.Refusal.{Refusal}
-use Rattle.documents.specs.declared.stored.CreateFault.{CreateFault}
+use Rattle.documents.specs.declared.storage_metadata.CreateFault.{CreateFault}
 use Rattle.streams.specs.declared.stream_fault.StreamFault.{StreamFault}
 use Rattle.zarrs_chunk_base.specs.declared.refusal.Refusal.TheVariants as refusal
 use Rattle.zarrs_chunk_plan.specs.declared.copy.region_error.RegionError.TheVariants as region
 use Rattle.documents.specs.declared.document_fault.DocumentFault.TheVariants as document
-use Rattle.documents.specs.declared.stored.CreateFault.TheVariants as create
+use Rattle.documents.specs.declared.storage_metadata.CreateFault.TheVariants as create
 use Rattle.streams.specs.declared.stream_fault.StreamFault.TheVariants as stream
 use Rattle.zarrs_chunk_tasks.specs.declared.tasks_error.TasksError.TheVariants as tasks
 

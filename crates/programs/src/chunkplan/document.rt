@@ -13,7 +13,9 @@ use crate::chunkplan::member_rules::check_rules;
 use crate::chunkplan::members::{member_box, member_flag, member_numbers, member_share, read_box};
 use crate::chunkplan::ranges::{RangesAsked, member_ranges};
 use crate::chunkplan::task_choice::{TaskChoice, member_choice};
-use documents::{DocumentFault, Stored, check_members, read_object, read_shape, take_stored};
+use documents::{
+    DocumentFault, StorageMetadata, check_members, read_object, read_shape, take_stored,
+};
 use serde_json::Value;
 use std::alloc::Global;
 use zarrs_chunk_base::{ArraySubset, Refusal, take_member};
@@ -29,7 +31,7 @@ pub(crate) enum Task {
         ranges: Option<RangesAsked>,
     },
     /// A copy to an array that is to be stored so.
-    Copy(Stored, Copying),
+    Copy(StorageMetadata, Copying),
     /// A resize to this shape, and whether the chunks are wanted too that stay as they are stored.
     Resize {
         shape: Vec<u64>,
@@ -82,7 +84,7 @@ pub(crate) struct Document {
     pub(crate) wanted: Wanted,
     /// Whether keys of the target's store stand behind the document, in lines of their own.
     pub(crate) keys: bool,
-    pub(crate) stored: Stored,
+    pub(crate) stored: StorageMetadata,
     pub(crate) task: Task,
 }
 
@@ -285,7 +287,7 @@ fn region_to(
 }
 
 /// How a target says that it is stored, which is taken out of it.
-fn take_target(alloc: Global, target: &mut Value) -> Result<Stored, DocumentFault>
+fn take_target(alloc: Global, target: &mut Value) -> Result<StorageMetadata, DocumentFault>
     ensures { IsReadOr DocumentMemory stored_of (target_stored_in (view target.old)) result }
 {
     take_stored(

@@ -19,7 +19,7 @@ use crate::chunkplan::opened::OpenedArray;
 use crate::chunkplan::ranges::RangesAsked;
 use crate::chunkplan::stages::{asked_stage, find_route, stages_of};
 use crate::chunkplan::task_lines::write_stage;
-use documents::{CreateFault, Stored};
+use documents::{CreateFault, StorageMetadata};
 use std::alloc::{AllocError, Global};
 use std::io::Write;
 use streams::Sink;
@@ -88,7 +88,7 @@ pub(crate) fn target_shape<'a>(selection: &'a Selection, own: &'a [u64]) -> &'a 
 /// The array as it is to be stored.
 pub(crate) fn open_target(
     alloc: Global,
-    stored: Stored,
+    stored: StorageMetadata,
     shape: &[u64],
 ) -> Result<OpenedArray, RunFault>
     ensures made { IsReadOr Memory array_in (target_in (stored_of stored) shape.now) result }
@@ -112,7 +112,11 @@ fn of_target(fault: CreateFault) -> RunFault
 }
 
 /// The grid that the array's metadata make of another shape.
-fn resized_grid(alloc: Global, stored: Stored, shape: &[u64]) -> Result<ChunkGrid, RunFault>
+fn resized_grid(
+    alloc: Global,
+    stored: StorageMetadata,
+    shape: &[u64],
+) -> Result<ChunkGrid, RunFault>
     ensures { IsReadOr Memory grid_in (resized_in (stored_of stored) shape.now) result }
 {
     match ChunkGrid::from_metadata(alloc, &stored.chunk_grid, shape) {

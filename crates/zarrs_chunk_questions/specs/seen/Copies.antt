@@ -22,11 +22,11 @@ use Rattle.zarrs_chunk_questions.specs.Tasks.{Copy}
 use Rattle.zarrs_chunk_questions.specs.declared.copying.Copying.{Copying}
 use Rattle.zarrs_chunk_questions.specs.declared.line_fault.LineFault.{LineFault}
 
-abbrev pub Stored : Type 0
-Stored = StoredArray ChunkGrid ChunkKeyEncoding
+abbrev pub OpenedArray : Type 0
+OpenedArray = StoredArray ChunkGrid ChunkKeyEncoding
 
 -- an array as it is stored: its grid and its encoding are made of these trees, of an array of this shape
-abbrev pub IsStoredIn : (chunk_grid encoding : Data) → (shape : List ℕ) → Stored → Type 0
+abbrev pub IsStoredIn : (chunk_grid encoding : Data) → (shape : List ℕ) → OpenedArray → Type 0
 IsStoredIn chunk_grid encoding shape made =
     IsGridIn chunk_grid shape (kind_in made.grid) (grid_in made.grid) × IsEncodingIn encoding (encoding_in made.encoding)
 
@@ -61,13 +61,13 @@ abbrev pub CanGiveParts : Parts ChunkGrid ChunkKeyEncoding → Type 0
 CanGiveParts = MeetSubset dimensions_in
 
 -- the parts of a task between two arrays; the task of a group with them; and that a walk has it for each group
-abbrev pub HasPartsBetween : (source target : Stored) → TaskPlan → Type 0
+abbrev pub HasPartsBetween : (source target : OpenedArray) → TaskPlan → Type 0
 HasPartsBetween = planned.HasPartsOf dimensions_in key_in
 
-abbrev pub IsPlanOf : (source target : Stored) → Tasks ChunkGrid → (group : List ℕ) → TaskPlan → Type 0
+abbrev pub IsPlanOf : (source target : OpenedArray) → Tasks ChunkGrid → (group : List ℕ) → TaskPlan → Type 0
 IsPlanOf = planned.IsPlanOf dimensions_in key_in
 
-abbrev pub HavePlans : (source target : Stored) → Tasks ChunkGrid → List (List ℕ) → Type 0
+abbrev pub HavePlans : (source target : OpenedArray) → Tasks ChunkGrid → List (List ℕ) → Type 0
 HavePlans = planned.HavePlans dimensions_in key_in
 
 -- a walk at its beginning: what it has to give are the tasks of the copy, with their parts

@@ -12,14 +12,14 @@ use Rattle.programs.specs.chunkplan.seen.Routes.{stage_of}
 use Rattle.programs.specs.declared.chunkplan.route.Stage.{Stage as StageValue}
 
 -- the parts of a task from one array to the other
-abbrev pub HasPartsOf : (source target : copies.Stored) → TaskPlan → Type 0
+abbrev pub HasPartsOf : (source target : copies.OpenedArray) → TaskPlan → Type 0
 HasPartsOf = copies.HasPartsBetween
 
 -- what a walk has to give, with the parts; and that there is that
-abbrev pub PlansToCome : (source target : copies.Stored) → Tasks ChunkGrid → List TaskPlan → Type 0
+abbrev pub PlansToCome : (source target : copies.OpenedArray) → Tasks ChunkGrid → List TaskPlan → Type 0
 PlansToCome = planned.PlansToCome dimensions_in key_in
 
-abbrev pub HavePlans : (source target : copies.Stored) → Tasks ChunkGrid → List (List ℕ) → Type 0
+abbrev pub HavePlans : (source target : copies.OpenedArray) → Tasks ChunkGrid → List (List ℕ) → Type 0
 HavePlans = copies.HavePlans
 
 -- a walk over the tasks of a stage, at its beginning: what it has to give are the tasks of the stage with their parts

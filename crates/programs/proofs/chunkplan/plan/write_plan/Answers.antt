@@ -58,7 +58,7 @@ returns-in_err-after-in-Resize g c =
     let fault = c.in_err-after-in-Resize.field-0.0 in
     let document = document_of c.args.document in
     let source = array_in c.in_ok-array.array in
-    by_task document source (resize_to c.in-Resize.shape.items c.in-Resize.keep) (ap task_of c.in-Resize.is)
+    by_task document source (resize_to c.in-Resize.shape.items c.in-Resize.include_unchanged) (ap task_of c.in-Resize.is)
     (rw c.deref.ensures.value at c.in_ok-array.ensures.made) _ _ _
     (early _ (λ fault. resized_in document.stored c.in-Resize.shape.items (Err fault)) _ _ _ c.from_residual-in_err-after-in-Resize.ensures.1
     (λ never. never)
@@ -69,7 +69,7 @@ pub returns : goal.returns
 returns g c =
     let document = document_of c.args.document in
     let source = array_in c.in_ok-array.array in
-    by_task document source (resize_to c.in-Resize.shape.items c.in-Resize.keep) (ap task_of c.in-Resize.is)
+    by_task document source (resize_to c.in-Resize.shape.items c.in-Resize.include_unchanged) (ap task_of c.in-Resize.is)
     (rw c.deref.ensures.value at c.in_ok-array.ensures.made) _ _ _
     (text_follows _ _ (λ fault. resized_in document.stored c.in-Resize.shape.items (Err fault))
     (λ text is. (grid_in c.in_ok-after-in-Resize.after, rw c.deref-in-Resize.ensures.value at c.in_ok-after-in-Resize.ensures, is)) _ _ _

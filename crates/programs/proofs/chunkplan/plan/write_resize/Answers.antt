@@ -10,7 +10,7 @@ pub write_changes-requires-clause-used : goal.write_changes-requires-clause-used
 write_changes-requires-clause-used g c =
     let about = c.in-Ok.ensures.about in
     rw (about.same_before, about.same_after)
-    (asked_are_used (dimensions_of c.args.array.now) (dimensions_in c.args.after.now) c.args.keep
+    (asked_are_used (dimensions_of c.args.array.now) (dimensions_in c.args.after.now) c.args.include_unchanged
     (changes_to_come c.in-Ok.walk) (c.in-Ok.ensures.changed c.requires.resized))
 
 pub write_changes-requires-clause-fit : goal.write_changes-requires-clause-fit

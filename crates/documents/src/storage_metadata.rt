@@ -3,8 +3,8 @@ ghost use Rattle.std.specs.Prelude.{◌≡◌, ◌⊎◌, IfErr, IfOk};
 ghost use Rattle.zarrs_chunk_keys.specs.seen.Encodings.{encoding_in};
 ghost use Rattle.zarrs_chunk_base.specs.Dimension.{array_sizes};
 ghost use Rattle.zarrs_chunks.specs.seen.Grids.{grid_in};
-ghost use Rattle.documents.specs.Stored.{IsStored, IsCreateFault, stored_of};
-ghost use Rattle.documents.specs.declared.stored.CreateFault.TheVariants.{Memory};
+ghost use Rattle.documents.specs.StorageMetadata.{IsStored, IsCreateFault, stored_of};
+ghost use Rattle.documents.specs.declared.storage_metadata.CreateFault.TheVariants.{Memory};
 
 use std::alloc::Global;
 use zarrs_chunk_base::{MetadataV3, PluginCreateError, Refusal};
@@ -14,7 +14,7 @@ use zarrs_chunks::ChunkGrid;
 
 /// The metadata of an array's chunk grid and of its chunk key encoding.
 #[derive(Drop)]
-pub struct Stored {
+pub struct StorageMetadata {
     pub chunk_grid: MetadataV3,
     pub chunk_key_encoding: MetadataV3,
 }
@@ -30,7 +30,7 @@ pub enum CreateFault {
     Memory,
 }
 
-impl Stored {
+impl StorageMetadata {
     /// The grid and the encoding by which an array of a shape is stored. Their metadata are dropped once both are made: a list of edges then
     /// stands in the grid alone.
     ///

@@ -1,6 +1,6 @@
 use Rattle.std.proofs.Common.{inr}
 use Rattle.zarrs_chunks.specs.seen.Grids.{grid_in, kind_in}
-use Rattle.documents.proofs.stored.Stored.array.Goals as goal
+use Rattle.documents.proofs.storage_metadata.StorageMetadata.array.Goals as goal
 
 pub returns-in-Err-Refused-clause-refused : goal.returns-in-Err-Refused-clause-refused
 returns-in-Err-Refused-clause-refused c =
