@@ -12,9 +12,9 @@ use std::alloc::{AllocError, Global};
 ///
 /// # Errors
 /// Out of memory.
-pub fn one_line(alloc: Global, text: &[u8]) -> Result<Vec<u8>, AllocError>
+pub fn one_line(alloc: Global, text: Vec<u8>) -> Result<Vec<u8>, AllocError>
     ensures one { IfOk result (λ line. IsOneLine line.items) }
-    ensures says { IfOk result (λ line. line.items ≡ line_of text.now) }
+    ensures says { IfOk result (λ line. line.items ≡ line_of text.items) }
 {
     let mut line = unbroken(alloc, text)?;
     line.push(b'\n')?;
@@ -25,14 +25,14 @@ pub fn one_line(alloc: Global, text: &[u8]) -> Result<Vec<u8>, AllocError>
 ///
 /// # Errors
 /// Out of memory.
-pub fn unbroken(alloc: Global, text: &[u8]) -> Result<Vec<u8>, AllocError>
-    ensures { IfOk result (λ line. line.items ≡ unbroken_text text.now) }
+pub fn unbroken(alloc: Global, text: Vec<u8>) -> Result<Vec<u8>, AllocError>
+    ensures { IfOk result (λ line. line.items ≡ unbroken_text text.items) }
 {
-    if are_printable(text) {
-        return Vec::from_slice(alloc, text);
+    if are_printable(&text) {
+        return Ok(text);
     }
     let mut line = Vec::with_capacity(alloc, text.len())?;
-    let mut rest = text;
+    let mut rest = text.as_slice();
     while let Some((first, behind)) = rest.split_first() {
         let more = push_first(&mut line, *first, behind)?;
         rest = &behind[more..];

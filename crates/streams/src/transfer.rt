@@ -139,5 +139,5 @@ fn error_line<F: Display>(alloc: Global, program: &str, fault: &F) -> Result<Vec
 {
     let words = format!(in alloc; "{fault}")?;
     let text = format!(in alloc; "{program}: {words}")?;
-    one_line(alloc, text.as_bytes())
+    one_line(alloc, text.into_bytes())
 }

@@ -62,7 +62,7 @@ fn write_line(
         × (line.items ≡ line_of text)) }
 {
     let text = answer_text(alloc, answered)?;
-    one_line(alloc, text.as_bytes())
+    one_line(alloc, text.into_bytes())
 }
 
 /// The text of an answer, or of why there is none.

@@ -110,7 +110,7 @@ fn overlap_text(
     write_numbers(&mut json, "shape", part.shape.as_slice())?;
     write_whole_if(&mut json, written, part)?;
     json.end_object()?;
-    unbroken(alloc, &json.into_inner())
+    unbroken(alloc, json.into_inner())
 }
 
 /// Writes the member `whole` of what a task writes.
@@ -135,7 +135,7 @@ pub(crate) fn task_begin(alloc: Global, buffer: &[u64]) -> Result<Vec<u8>, Alloc
     write_numbers(&mut json, "buffer", buffer)?;
     json.key("from")?;
     json.begin_array()?;
-    unbroken(alloc, &json.into_inner())
+    unbroken(alloc, json.into_inner())
 }
 
 /// What stands in the line of a task between what it reads and what it writes.
@@ -155,7 +155,7 @@ pub(crate) fn task_middle(
     write_count(&mut json, "of", of)?;
     json.key("to")?;
     json.begin_array()?;
-    unbroken(alloc, &json.into_inner())
+    unbroken(alloc, json.into_inner())
 }
 
 /// The end of the line of a task.
@@ -284,7 +284,7 @@ fn word_of(what: Change) -> &'static str
 fn ended(alloc: Global, json: Writer) -> Result<Vec<u8>, AllocError>
     ensures { IfOk result (λ line. line.items ≡ one_line_of (json.before ++ print json.tokens)) }
 {
-    one_line(alloc, &json.into_inner())
+    one_line(alloc, json.into_inner())
 }
 
 /// Writes a member of this name: how many there are, or `null` where no number says it.

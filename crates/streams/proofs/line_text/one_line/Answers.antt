@@ -5,4 +5,4 @@ use Rattle.streams.proofs.line_text.one_line.Goals as goal
 
 pub returns-clause-one : goal.returns-clause-one
 returns-clause-one c =
-    subst IsOneLine (sym (c.in_ok-push.ensures.items ∙ ap (λ line. line ++ 10 ∷ []) c.in_ok-line.ensures)) (is_one_line c.args.text.now)
+    subst IsOneLine (sym (c.in_ok-push.ensures.items ∙ ap (λ line. line ++ 10 ∷ []) c.in_ok-line.ensures)) (is_one_line c.args.text.items)

@@ -20,6 +20,6 @@ returns c =
     at c.into_inner.ensures.items in
     let text : c.into_inner.result.items ≡ comma_before c.args.number ++ print (json_tokens (overlap_json c.args.written c.args.part.now)) =
     rw (overlap_tokens c.args.written c.args.part.now) printed in
-    let same : unbroken c.deref.result.now ≡ item_text (overlap_json c.args.written) c.args.number c.args.part.now =
-    ap unbroken (c.deref.ensures.value ∙ text) ∙ item_escaped (overlap_json c.args.written) c.args.number c.args.part.now in
+    let same : unbroken c.into_inner.result.items ≡ item_text (overlap_json c.args.written) c.args.number c.args.part.now =
+    ap unbroken text ∙ item_escaped (overlap_json c.args.written) c.args.number c.args.part.now in
     rw same at c.unbroken.ensures

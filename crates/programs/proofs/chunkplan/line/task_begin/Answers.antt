@@ -11,5 +11,5 @@ returns c =
     in
     let printed = rw (all.tokens, all.before, c.new-json.ensures.tokens, c.new-json.ensures.before, c.in_ok-with_capacity.ensures.items)
     at c.into_inner.ensures.items in
-    let same : unbroken c.deref.result.now ≡ begin_of_task c.args.buffer.now = ap unbroken (c.deref.ensures.value ∙ printed) in
+    let same : unbroken c.into_inner.result.items ≡ begin_of_task c.args.buffer.now = ap unbroken printed in
     rw same at c.unbroken.ensures

@@ -12,5 +12,5 @@ returns c =
     in
     let printed = rw (all.tokens, all.before, c.new-json.ensures.tokens, c.new-json.ensures.before, c.in_ok-with_capacity.ensures.items)
     at c.into_inner.ensures.items in
-    let same : unbroken c.deref.result.now ≡ middle_of_task c.args.number c.args.of = ap unbroken (c.deref.ensures.value ∙ printed) in
+    let same : unbroken c.into_inner.result.items ≡ middle_of_task c.args.number c.args.of = ap unbroken printed in
     rw same at c.unbroken.ensures
