@@ -6,6 +6,8 @@ use Rattle.std.proofs.lemmas.Grind.{div_ceil_times, get_or_default_zero}
 use Rattle.std.proofs.lemmas.List.{length-map, map-append, take_more}
 use Rattle.std.specs.Int.{div_ceil}
 use Rattle.std.specs.Int.NonZero.{non_zero_u64_get}
+use Rattle.std.proofs.lemmas.List.Sorted.{Contains-permutation, IsPermutation-map, IsPermutation-sym, length_permutation}
+use Rattle.std.specs.List.Sorted.{IsPermutation}
 use Rattle.std.specs.List.{AllByRecursion, AllZip}
 use Rattle.std.specs.declared.num.NonZeroU64.{NonZeroU64}
 use Rattle.zarrs_chunk_base.specs.ArraySubset.{Box, IsBox, IsEmptyBox, lasts}
@@ -200,6 +202,18 @@ row_is units first after read written = record {
 } where
   no_edge : (edge : ℕ) → ¬ Contains [] edge
   no_edge edge (k, within, is) = omega arith
+
+-- in another order
+pub row_in_order : (units : Units) (row sorted : List NonZeroU64) → IsPermutation row sorted → IsRow units (edges_in row) → IsRow units (edges_in sorted)
+row_in_order units row sorted same is =
+    let numbers = IsPermutation-map non_zero_u64_get row sorted same in
+    let long = length_permutation (edges_in row) (edges_in sorted) numbers in
+    record {
+      some = omega (arith, is.some, long);
+      only = λ edge there. is.only edge (Contains-permutation (edges_in sorted) (edges_in row) edge (IsPermutation-sym (edges_in row) (edges_in sorted) numbers) there);
+      few = omega (arith, is.few, long);
+      all = λ few edge tried. Contains-permutation (edges_in row) (edges_in sorted) edge numbers (is.all few edge tried);
+    }
 
 -- ---- rows
 

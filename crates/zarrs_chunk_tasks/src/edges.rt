@@ -53,7 +53,7 @@ struct Units {
 /// Along each dimension an edge is made of whole units. A unit is as long as the longest chunk of the source, of those that hold some of the region, or as the
 /// longest one of the target. An edge has the least number of units that cuts the region into at most one piece, two, three and so on. It is cut to the region's
 /// size. If there are more than 2^16 units along a dimension, the number of pieces at least doubles from one edge to the next. If there are more than 2^17 shapes,
-/// every second edge is left out along the dimension that has the most, until there are no more than 2^12 shapes.
+/// every second edge is left out along the dimension that has the most, until there are no more than 2^12 shapes. The shortest edges stay.
 ///
 /// # Errors
 /// Out of memory.
@@ -82,8 +82,9 @@ pub(crate) fn tried_edges<G: ChunkGridTraits, H: ChunkGridTraits>(
         (H.dimensions target.now) region.now moved.now.start → IsTrue tried.are_all) }
 {
     let units = units_along(alloc, source, target, region, moved)?;
-    let rows = all_edges(alloc, &units)?;
+    let rows = all_edges(alloc, &units, false)?;
     if choices_of(&rows) > MOST_SHAPES {
+        let rows = all_edges(alloc, &units, true)?;
         return Ok(TriedEdges {
             rows: thinned(alloc, rows, SOME_SHAPES)?,
             are_all: false,
@@ -177,32 +178,39 @@ fn is_few(along: &Units) -> bool
     read.max(written) <= MOST_PIECES
 }
 
-/// Finds the edges that are tried along each dimension.
+/// Finds the edges that are tried along each dimension, the shortest first if `in_order`.
 ///
 /// # Errors
 /// Out of memory.
-fn all_edges(alloc: Global, units: &[Units]) -> Result<Vec<Vec<NonZeroU64>>, AllocError>
+fn all_edges(
+    alloc: Global,
+    units: &[Units],
+    in_order: bool,
+) -> Result<Vec<Vec<NonZeroU64>>, AllocError>
     requires { AllByRecursion IsSome units.now }
     ensures { IfOk result (λ rows. AllZip IsRow units.now (rows_of_edges rows.items)) }
 {
     let mut rows = Vec::new(alloc);
     for along in units {
-        rows.push(edges_along(alloc, along)?)?;
+        rows.push(edges_along(alloc, along, in_order)?)?;
     }
     Ok(rows)
 }
 
-/// Finds the edges that are tried along one dimension.
+/// Finds the edges that are tried along one dimension, the shortest first if `in_order`.
 ///
 /// # Errors
 /// Out of memory.
-fn edges_along(alloc: Global, along: &Units) -> Result<Vec<NonZeroU64>, AllocError>
+fn edges_along(alloc: Global, along: &Units, in_order: bool) -> Result<Vec<NonZeroU64>, AllocError>
     requires { IsSome along.now }
     ensures { IfOk result (λ edges. IsRow along.now (edges_in edges.items)) }
 {
     let mut edges = Vec::new(alloc);
     put_all(&mut edges, along.size, along.read)?;
     put_all(&mut edges, along.size, along.written)?;
+    if in_order {
+        edges.sort_unstable();
+    }
     Ok(edges)
 }
 

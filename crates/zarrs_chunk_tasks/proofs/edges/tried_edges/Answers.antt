@@ -6,33 +6,33 @@ use Rattle.zarrs_chunk_tasks.proofs.edges.tried_edges.Goals as goal
 
 pub thinned-requires-clause-some : goal.thinned-requires-clause-some
 thinned-requires-clause-some g c =
-    let is = rw c.deref.ensures.value at (c.in_ok-rows.ensures {u = tt}) in edges_there _ (some_rows _ _ is)
+    let is = rw c.deref-then-choices_of-gt-MOST_SHAPES.ensures.value at (c.in_ok-rows-2.ensures {u = tt}) in edges_there _ (some_rows _ _ is)
 
 pub returns-then-choices_of-gt-MOST_SHAPES-clause-long :
     goal.returns-then-choices_of-gt-MOST_SHAPES-clause-long
 returns-then-choices_of-gt-MOST_SHAPES-clause-long g c =
     let source = g.G.ChunkGridTraits.dimensions c.args.source.now in
     let target = g.H.ChunkGridTraits.dimensions c.args.target.now in
-    let is = rw c.deref.ensures.value at (c.in_ok-rows.ensures {u = tt}) in
-    as_many_rows c.in_ok-rows.rows.items _ (c.in_ok-thinned.ensures {u = tt}).thinned
+    let is = rw c.deref-then-choices_of-gt-MOST_SHAPES.ensures.value at (c.in_ok-rows-2.ensures {u = tt}) in
+    as_many_rows c.in_ok-rows-2.rows.items _ (c.in_ok-thinned.ensures {u = tt}).thinned
     ∙ as_many source target c.args.region.now c.args.moved.now.start c.requires.some c.in_ok-units.units.items (c.in_ok-units.ensures {u = tt})
-    c.in_ok-rows.rows.items is
+    c.in_ok-rows-2.rows.items is
 
 pub returns-then-choices_of-gt-MOST_SHAPES-clause-tried :
     goal.returns-then-choices_of-gt-MOST_SHAPES-clause-tried
 returns-then-choices_of-gt-MOST_SHAPES-clause-tried g c = λ shape has.
     let source = g.G.ChunkGridTraits.dimensions c.args.source.now in
     let target = g.H.ChunkGridTraits.dimensions c.args.target.now in
-    let is = rw c.deref.ensures.value at (c.in_ok-rows.ensures {u = tt}) in
+    let is = rw c.deref-then-choices_of-gt-MOST_SHAPES.ensures.value at (c.in_ok-rows-2.ensures {u = tt}) in
     only_tried source target c.args.region.now c.args.moved.now.start c.requires.some c.in_ok-units.units.items (c.in_ok-units.ensures {u = tt})
-    c.in_ok-rows.rows.items is shape
-    (shape_of_thinned c.in_ok-rows.rows.items c.in_ok-thinned.field-0.items shape (c.in_ok-thinned.ensures {u = tt}).thinned has)
+    c.in_ok-rows-2.rows.items is shape
+    (shape_of_thinned c.in_ok-rows-2.rows.items c.in_ok-thinned.field-0.items shape (c.in_ok-thinned.ensures {u = tt}).thinned has)
 
 pub returns-then-choices_of-gt-MOST_SHAPES-clause-some :
     goal.returns-then-choices_of-gt-MOST_SHAPES-clause-some
 returns-then-choices_of-gt-MOST_SHAPES-clause-some g c =
-    let is = rw c.deref.ensures.value at (c.in_ok-rows.ensures {u = tt}) in
-    numbers_there _ (still_some (rows_of c.in_ok-rows.rows.items) _ (c.in_ok-thinned.ensures {u = tt}).thinned (edges_there _ (some_rows _ _ is)))
+    let is = rw c.deref-then-choices_of-gt-MOST_SHAPES.ensures.value at (c.in_ok-rows-2.ensures {u = tt}) in
+    numbers_there _ (still_some (rows_of c.in_ok-rows-2.rows.items) _ (c.in_ok-thinned.ensures {u = tt}).thinned (edges_there _ (some_rows _ _ is)))
 
 pub returns-then-choices_of-gt-MOST_SHAPES-clause-few :
     goal.returns-then-choices_of-gt-MOST_SHAPES-clause-few
