@@ -39,8 +39,8 @@ pub struct CheapestTasks {
 /// these counts are at most 2^16, and their product is at most 2^24, all choices are compared. Otherwise `is_exact` is `false`. The tasks cost no more than
 /// tasks of one chunk each in any case.
 ///
-/// If not all choices are compared, each number of chunks up to 16 is tried along a dimension, and then numbers of which each is greater by a sixteenth than the
-/// one before it. While there are more than 2^18 choices, every second number is left out along the dimension that has the most. So any number of chunks will do.
+/// If not all choices are compared, each number of chunks up to 16 is tried along a dimension. After these, each number is greater than the one before it by a
+/// sixteenth. While there are more than 2^18 choices, every second number is left out along the dimension that has the most. So any number of chunks will do.
 ///
 /// It takes the time to count groups of each number of chunks that is tried, as [`task_counts`](crate::task_counts) does, and some multiplications for each
 /// choice.

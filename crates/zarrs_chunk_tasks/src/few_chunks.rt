@@ -55,8 +55,7 @@ pub fn can_count<G: ChunkGridTraits, H: ChunkGridTraits>(
     }
 }
 
-/// Whether at most `most` chunks of the source hold some of a region along each dimension in which one of both grids isn't regular, and of the target where it
-/// goes.
+/// Whether few enough chunks of the source hold some of a region, and of the target where it goes: at most `most` along each dimension that isn't regular in both.
 ///
 /// # Errors
 /// Out of memory.
@@ -78,7 +77,7 @@ fn have_few<G: ChunkGridTraits, H: ChunkGridTraits>(
     has_few(alloc, target, source, moved, most)
 }
 
-/// Whether at most `most` chunks hold some of a box of elements along each dimension in which a grid, or another one, isn't regular.
+/// Whether at most `most` chunks hold some of a box of elements, along each dimension in which a grid or another one isn't regular.
 ///
 /// # Errors
 /// Out of memory.

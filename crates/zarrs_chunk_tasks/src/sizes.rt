@@ -34,8 +34,8 @@ pub(crate) struct Size {
 /// Returns the sizes that are tried. `range` is a range of indices by groups of any number of chunks, and begins at `first` in the array of another grid. The
 /// first size is one chunk. Each other size has shorter groups than one before it, or reads or decodes less.
 ///
-/// If `are_all`, each number of chunks is tried. Otherwise each number up to 16 is, and then numbers of which each is greater by a sixteenth than the one before
-/// it, up to the number that makes one group.
+/// If `are_all`, each number of chunks is tried. Otherwise each number up to 16 is tried. After these, each number is greater than the one before it by a sixteenth,
+/// up to the number that makes one group.
 ///
 /// # Errors
 /// Out of memory.
