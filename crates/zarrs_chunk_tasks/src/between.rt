@@ -60,6 +60,13 @@ impl TwoStages {
     }
 }
 
+/// What two stages cost at least: the one that writes the intermediate array, and the one that reads it.
+#[derive(Clone, Copy)]
+struct LeastOfBoth {
+    write: u128,
+    read: u128,
+}
+
 /// The best two stages of those that were compared.
 #[derive(Drop)]
 pub(crate) struct Compared {
@@ -130,7 +137,8 @@ fn likely_shape<G: ChunkGridTraits, H: ChunkGridTraits>(
     let mut least = None;
     for number in 0..shapes {
         let chunks = shape_at(alloc, edges, number)?;
-        if let Some(cost) = least_of_both(alloc, staged, &chunks)? {
+        if let Some(both) = least_of_both(alloc, staged, &chunks)? {
+            let cost = both.write.saturating_add(both.read);
             if is_below(least, cost) {
                 least = Some(cost);
                 likely = number;
@@ -221,7 +229,8 @@ fn cheaper(one: TwoStages, other: TwoStages) -> TwoStages
     }
 }
 
-/// Chooses the tasks of both stages, by an intermediate array in chunks of this shape. `None` if no tasks fit, or if they cost the bound or more.
+/// Chooses the tasks of both stages, by an intermediate array in chunks of this shape. `None` if no tasks fit, or if they cost the bound or more. The tasks of the
+/// second stage aren't looked for if those of the first one already cost so much.
 ///
 /// # Errors
 /// Out of memory.
@@ -240,7 +249,7 @@ fn both_stages<G: ChunkGridTraits, H: ChunkGridTraits>(
     let Some(least) = least_of_both(alloc, staged, &chunks)? else {
         return Ok(None);
     };
-    if !is_below(bound, least) {
+    if !is_below(bound, least.write.saturating_add(least.read)) {
         return Ok(None);
     }
     let grid = grid_of(alloc, staged.region.shape(), &chunks)?;
@@ -259,6 +268,9 @@ fn both_stages<G: ChunkGridTraits, H: ChunkGridTraits>(
     let Some(first) = expect_tasks(first)? else {
         return Ok(None);
     };
+    if first.is_exact && !is_below(bound, first.cost.saturating_add(least.read)) {
+        return Ok(None);
+    }
     let at = staged.moved.start();
     let second = cheapest_tasks(alloc, &grid, staged.target, &array, at, most, worth);
     let Some(second) = expect_tasks(second)? else {
@@ -271,7 +283,7 @@ fn both_stages<G: ChunkGridTraits, H: ChunkGridTraits>(
     }))
 }
 
-/// What both stages cost at least, by an intermediate array in chunks of this shape, up to the greatest number. `None` if no tasks fit.
+/// What each stage costs at least, by an intermediate array in chunks of this shape, up to the greatest number. `None` if no tasks fit.
 ///
 /// # Errors
 /// Out of memory.
@@ -279,7 +291,7 @@ fn least_of_both<G: ChunkGridTraits, H: ChunkGridTraits>(
     alloc: Global,
     staged: &Staged<G, H>,
     chunks: &[NonZeroU64],
-) -> Result<Option<u128>, AllocError>
+) -> Result<Option<LeastOfBoth>, AllocError>
     requires can { CanBeStaged G.dimensions H.dimensions staged.now }
     requires long { length chunks.now ≡ length staged.now.region.now.shape }
     ensures { IfOk result (IsLeast (G.dimensions staged.now.source.now)
@@ -314,7 +326,7 @@ fn least_of_both<G: ChunkGridTraits, H: ChunkGridTraits>(
     else {
         return Ok(None);
     };
-    Ok(Some(write.saturating_add(read)))
+    Ok(Some(LeastOfBoth { write, read }))
 }
 
 /// The regular grid of an array in chunks of one shape.

@@ -9,8 +9,9 @@ use Rattle.zarrs_chunk_axes.specs.EqualEdges.{AreEqualEdges}
 use Rattle.zarrs_chunk_plan.specs.Region.{CanBeMoved, moved}
 use Rattle.zarrs_chunk_plan.specs.ArrayBoxes.{array_box}
 use Rattle.zarrs_chunk_tasks.specs.Counts.{greatest_of_128}
-use Rattle.zarrs_chunk_tasks.specs.Stages.{BothCostAtLeast, IsStage, NoneOfBothFit}
+use Rattle.zarrs_chunk_tasks.specs.Stages.{BothCostAtLeast, CostAtLeast, IsStage, NoneOfBothFit}
 use Rattle.zarrs_chunk_tasks.specs.declared.between.Compared.{Compared}
+use Rattle.zarrs_chunk_tasks.specs.declared.between.LeastOfBoth.{LeastOfBoth}
 use Rattle.zarrs_chunk_tasks.specs.declared.between.Staged.{Staged}
 use Rattle.zarrs_chunk_tasks.specs.declared.between.TwoStages.{TwoStages}
 
@@ -64,11 +65,16 @@ module _ (source target : List Dimension) (region : Box) (at : List ℕ) (most r
   NoneIsBelow between None = NoneOfBothFit source target region at most between
   NoneIsBelow between (Some cost) = BothCostAtLeast source target region at most between read_elements cost
 
-  -- what both stages by chunks of one shape cost at least; none, if none fit
-  pub record IsLeast (shape : List NonZeroU64) (least : Option ℕ) : Type 0 where
+  -- what each stage by chunks of one shape costs at least
+  pub record CostLeast (between : List Dimension) (least : LeastOfBoth) : Type 0 where
+    pub write : CostAtLeast source between region (array_box between).start most read_elements least.write
+    pub read : CostAtLeast between target (array_box between) at most read_elements least.read
+
+  -- the same, or none, if no tasks of both stages fit
+  pub record IsLeast (shape : List NonZeroU64) (least : Option LeastOfBoth) : Type 0 where
     pub between : List Dimension
     pub made : AreEqualEdges between region.shape (map non_zero_u64_get shape)
-    pub is_least : NoneIsBelow between least
+    pub is_least : MatchOption least (NoneOfBothFit source target region at most between) (CostLeast between)
 
   -- what is found by chunks of one shape: both stages, or none, if they cost no less than the bound
   pub record FindsBoth (shape : List NonZeroU64) (bound : Option ℕ) (found : Option TwoStages) : Type 0 where

@@ -1,6 +1,6 @@
-use Rattle.std.proofs.Common.{◌∙◌, arith, ap, sym}
+use Rattle.std.proofs.Common.{◌∙◌, ap, sym}
 use Rattle.zarrs_chunk_base.specs.ArraySubset.{Box}
-use Rattle.zarrs_chunk_tasks.proofs.TwoStages.{both_at_least, can_read, can_write, first_none, second_none}
+use Rattle.zarrs_chunk_tasks.proofs.TwoStages.{can_read, can_write, first_none, second_none}
 use Rattle.zarrs_chunks.specs.seen.Grids.{regular_of}
 use Rattle.zarrs_chunk_tasks.proofs.between.least_of_both.Goals as goal
 
@@ -59,8 +59,5 @@ returns g c =
     record {
       between = (regular_of c.in_ok-grid.grid).dimensions;
       made = rw c.shape.ensures.value at (c.in_ok-grid.ensures {u = tt}).made;
-      is_least =
-          both_at_least (g.G.ChunkGridTraits.dimensions c.args.staged.now.source.now) (g.H.ChunkGridTraits.dimensions c.args.staged.now.target.now)
-          c.args.staged.now.region.now c.args.staged.now.moved.now.start c.args.staged.now.max_elements c.args.staged.now.read_elements (regular_of c.in_ok-grid.grid).dimensions c.in-Some.write c.in-Some-2.read c.saturating_add.result write read
-          (omega (arith, c.saturating_add.ensures));
+      is_least = record { write = write; read = read };
     }
