@@ -2,6 +2,7 @@
 """Prints how rechunkings are planned as tasks, beside a model of the library rechunker and the least that any plan costs.
 
     python3 measure/tasks.py [--table] [WORD ..]
+    python3 measure/tasks.py --program CHUNKPLAN [WORD ..]
 
 Without words all cases are printed, else those whose name has one of the words. Nothing is read or run: the plans are those
 of `tools/chunk_tasks`, and rechunker's are those of `measure/rechunker_model.py`.
@@ -24,9 +25,18 @@ A cost is a number of reads: what is decoded is divided by 2,500,000 elements, a
 - the plan's cost over the least, and the seconds of the search.
 
 A star says that two tasks of rechunker's plan would write one chunk.
+
+`--program` prints the same for the plans of a built `chunkplan`, as rows of a table of Markdown:
+
+- the plan's stages, reads, elements decoded over the array's;
+- rechunker's reads and elements decoded, with one intermediate array at most;
+- the plan's cost over rechunker's, under the same bound and with as much memory as rechunker takes;
+- the plan's cost over the least, and the seconds.
 """
+import json
 import math
 import pathlib
+import subprocess
 import sys
 import time
 
@@ -145,6 +155,48 @@ class Case:
         return " ".join(cells)
 
 
+def grid(edges):
+    """Returns the metadata of a grid with these chunks along each dimension."""
+    if all(isinstance(edge, int) for edge in edges):
+        return {"name": "regular", "configuration": {"chunk_shape": edges}}
+    if all(isinstance(edge, str) for edge in edges):
+        return {"name": "zarrs.regular_bounded", "configuration": {"chunk_shape": [int(edge) for edge in edges]}}
+    return {"name": "rectilinear", "configuration": {"kind": "inline", "chunk_shapes": edges}}
+
+
+def stages_of(program, shape, source, target, most):
+    """Returns the counts of the stages that a program plans, and the seconds."""
+    encoded = {"chunk_key_encoding": "default"}
+    target = {"chunk_grid": grid(target), **encoded}
+    document = {"shape": shape, "chunk_grid": grid(source), **encoded, "target": target, "max_elements": most, "counts": True}
+    start = time.perf_counter()
+    ran = subprocess.run([program], input=json.dumps(document).encode(), capture_output=True, check=True)
+    return json.loads(ran.stdout)["stages"], time.perf_counter() - start
+
+
+def cost_of(stages):
+    return sum(stage["chunks_read"] * READ_ELEMENTS + stage["elements_decoded"] for stage in stages)
+
+
+def line_of_program(program, name, shape, source, target, most):
+    """Returns a row of the table of a program's plans."""
+    array = math.prod(shape)
+    stages, seconds = stages_of(program, shape, source, target, most)
+    decoded = sum(stage["elements_decoded"] for stage in stages) / array
+    cells = [name, len(stages), f"{sum(stage['chunks_read'] for stage in stages):,}", f"{decoded:.2f}"]
+    if all(isinstance(edge, int) for edge in [*source, *target]):
+        theirs = rechunker_plan(shape, source, target, most)
+        equal, _ = stages_of(program, shape, source, target, memory_of(theirs, target))
+        cells += [f"{sum(copy.reads for copy in theirs.copies):,}", f"{sum(copy.decoded for copy in theirs.copies) / array:.2f}"]
+        cells += [f"{cost_of(stages) / theirs.cost:.3f}", f"{cost_of(equal) / theirs.cost:.3f}"]
+    else:
+        cells += [""] * 4
+    sides = [Side(chain(size, a), chain(size, b)) for size, a, b in zip(shape, source, target)]
+    least = min(least_cost(sides, most, number, READ_ELEMENTS) for number in (1, 2))
+    cells += [f"{cost_of(stages) / least:.3f}", f"{seconds:.2f}"]
+    return f"| {' | '.join(map(str, cells))} |"
+
+
 def in_reads(cost):
     return round(cost / READ_ELEMENTS)
 
@@ -159,6 +211,8 @@ def row(name, reads, decoded, cost, *words):
 
 def main():
     words = [word for word in sys.argv[1:] if word != "--table"]
+    program = words[1] if words[:1] == ["--program"] else None
+    words = words[2:] if program else words
     is_table = "--table" in sys.argv
     if is_table:
         theirs = f"{'reads':>11} {'dec.':>5} {'ratio':>5} {'equal':>5} "
@@ -167,7 +221,9 @@ def main():
     for case in CASES:
         if words and not any(word in case[0] for word in words):
             continue
-        if is_table:
+        if program:
+            print(line_of_program(program, *case), flush=True)
+        elif is_table:
             print(Case(*case).line(), flush=True)
         else:
             Case(*case).print()

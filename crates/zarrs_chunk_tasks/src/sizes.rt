@@ -16,7 +16,7 @@ use zarrs_chunks::ChunkGridTraits;
 const ONE_BY_ONE: u64 = 16;
 
 /// With how many sizes before it a size is compared at most. A size that is kept though another one beats it only takes time.
-const MOST_COMPARED: usize = 256;
+const MOST_COMPARED: usize = 16;
 
 /// How many chunks a group joins along a dimension, and what groups of that size cost.
 #[derive(Clone, Copy)]
