@@ -40,7 +40,8 @@ pub struct CheapestTasks {
 /// tasks of one chunk each in any case.
 ///
 /// If not all choices are compared, each number of chunks up to 16 is tried along a dimension. After these, each number is greater than the one before it by a
-/// sixteenth. While there are more than 2^18 choices, every second number is left out along the dimension that has the most. So any number of chunks will do.
+/// sixteenth. While there are more choices than 2^20, divided by the number of dimensions, every second number is left out along the dimension that has the
+/// most. So any number of chunks will do.
 ///
 /// It takes the time to count groups of each number of chunks that is tried, as [`task_counts`](crate::task_counts) does, and some multiplications for each
 /// choice.

@@ -12,7 +12,7 @@ ghost use Rattle.zarrs_chunk_tasks.specs.seen.Choices.{rows_of};
 ghost use Rattle.zarrs_chunk_tasks.specs.seen.TriedEdges.{AreUnits, HasAllBy, HasPut, IsFew, IsRow, IsSome, edges_in, rows_of_edges};
 
 use crate::largest_chunk::longest_along;
-use crate::thinning::{choices_of, thinned};
+use crate::thinning::{choices_for, choices_of, thinned};
 use std::alloc::{AllocError, Global};
 use std::num::NonZeroU64;
 use zarrs_chunk_base::ArraySubset;
@@ -25,8 +25,8 @@ const MOST_PIECES: u64 = 1 << 16;
 /// Up to how many shapes each one is tried.
 const MOST_SHAPES: u64 = 1 << 17;
 
-/// How many shapes are tried at most if they are more.
-const SOME_SHAPES: u64 = 1 << 12;
+/// How many shapes of one dimension are tried at most if they are more.
+const SOME_SHAPES: u64 = 1 << 14;
 
 /// The edges that are tried.
 #[derive(Drop)]
@@ -53,7 +53,8 @@ struct Units {
 /// Along each dimension an edge is made of whole units. A unit is as long as the longest chunk of the source, of those that hold some of the region, or as the
 /// longest one of the target. An edge has the least number of units that cuts the region into at most one piece, two, three and so on. It is cut to the region's
 /// size. If there are more than 2^16 units along a dimension, the number of pieces at least doubles from one edge to the next. If there are more than 2^17 shapes,
-/// every second edge is left out along the dimension that has the most, until there are no more than 2^12 shapes. The shortest edges stay.
+/// every second edge is left out along the dimension that has the most, until there are no more than 2^14 shapes, divided by
+/// the number of dimensions. The shortest edges stay.
 ///
 /// # Errors
 /// Out of memory.
@@ -85,8 +86,9 @@ pub(crate) fn tried_edges<G: ChunkGridTraits, H: ChunkGridTraits>(
     let rows = all_edges(alloc, &units, false)?;
     if choices_of(&rows) > MOST_SHAPES {
         let rows = all_edges(alloc, &units, true)?;
+        let most = choices_for(SOME_SHAPES, units.len());
         return Ok(TriedEdges {
-            rows: thinned(alloc, rows, SOME_SHAPES)?,
+            rows: thinned(alloc, rows, most)?,
             are_all: false,
         });
     }

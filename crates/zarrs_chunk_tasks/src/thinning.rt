@@ -19,6 +19,14 @@ pub(crate) fn choices_of<T>(rows: &[Vec<T>]) -> u64
     choices
 }
 
+/// How many choices are made of so many dimensions: fewer if these are more, since each choice takes the longer. It is at least one.
+pub(crate) fn choices_for(all: u64, dimensions: usize) -> u64
+    ensures some { 0 < result }
+    ensures within { 0 < all → result ≤ all }
+{
+    (all / (dimensions as u64).max(1)).max(1)
+}
+
 /// Leaves out every second item of the longest row, again and again, until there are no more than `most` choices. The first item of each row stays.
 ///
 /// # Errors

@@ -15,7 +15,7 @@ ghost use Rattle.zarrs_chunk_tasks.specs.seen.Tried.{AreTriedOver};
 
 use crate::copied::{Copied, Grouped, groups_along, groups_with};
 use crate::sizes::{Size, sizes_along};
-use crate::thinning::thinned;
+use crate::thinning::{choices_for, thinned};
 use std::alloc::{AllocError, Global};
 use std::num::NonZeroU64;
 use zarrs_chunk_base::ArraySubset;
@@ -27,8 +27,8 @@ const MOST_SIZES: u64 = 1 << 16;
 /// Up to how many chunks along all dimensions together each choice is.
 const MOST_CHOICES: u64 = 1 << 24;
 
-/// How many choices of one size for each dimension there are at most if not all are tried.
-const SOME_CHOICES: u64 = 1 << 18;
+/// How many choices of one dimension there are at most if not all are tried.
+const SOME_CHOICES: u64 = 1 << 20;
 
 /// The sizes that are tried.
 #[derive(Drop)]
@@ -90,8 +90,9 @@ fn sizes_of_groups<G: ChunkGridTraits, H: ChunkGridTraits>(
     if is_exact {
         return Ok(Tried { rows, is_exact });
     }
+    let most = choices_for(SOME_CHOICES, rows.len());
     Ok(Tried {
-        rows: thinned(alloc, rows, SOME_CHOICES)?,
+        rows: thinned(alloc, rows, most)?,
         is_exact,
     })
 }
