@@ -10,8 +10,8 @@ use zarrs_chunk_base::{ArrayShape, ArraySubset, IncompatibleDimensionalityError,
 use zarrs_chunk_keys::ChunkKeyEncodingTraits;
 use zarrs_chunks::ChunkGridTraits;
 
-/// How much a read takes. Each count is the product of the numbers in its list. It may be larger than any integer type holds. The lists have a number for
-/// each dimension.
+/// How much a read takes. Each count is the product of the numbers in its list. It may be larger than any integer type holds. How many numbers a list has isn't
+/// promised.
 #[derive(Debug, Drop)]
 pub struct ReadCounts {
     /// How many chunks are read: the parts of the plan.

@@ -15,8 +15,8 @@
 //! | There is a plan of each resize | [`there_is_a_resize`] |
 //! | Each chunk of which a change is asked for has one, and no two are under one key | [`each_chunk_has_one_change`] |
 //! | A chunk that is kept holds each element at the place where it held it | [`a_kept_chunk_is_as_it_was`] |
-//! | An element that both arrays have stays in its chunk, at its place; its chunk is kept or written again | [`each_element_stays_in_its_chunk`] |
-//! | The chunk of an element that leaves is written again or deleted, that of one that comes is written again or new | [`each_element_that_leaves_or_comes_changes_its_chunk`] |
+//! | An element that both arrays have stays in its chunk, at its place; its chunk is kept or rewritten | [`each_element_stays_in_its_chunk`] |
+//! | The chunk of an element that leaves is rewritten or deleted, the chunk of one that comes is rewritten or created | [`each_element_that_leaves_or_comes_changes_its_chunk`] |
 ghost use Rattle.std.specs.Prelude.{◌≡◌, ◌≢◌, ◌↔◌, ◌⊎◌, ◌<◌, ℕ, [], Bool, IsTrue, true, false, List, Ok, Option, length, map, option_map};
 ghost use Rattle.std.specs.Iterator.{Drains};
 ghost use Rattle.std.specs.List.{AllByRecursion, AllPairs, AllZip, Contains, flat_map, range_with_len};
@@ -236,8 +236,8 @@ pub fn a_kept_chunk_is_as_it_was<G: ChunkGridTraits, H: ChunkGridTraits>(before:
         ↔ IsPlace (H.dimensions after.now) chunk index place }
 {}
 
-/// An element that the array has before and after a resize lies in the same chunk, at the same place. That chunk is kept or written again; so an
-/// element is never to be moved from one chunk to another.
+/// An element that the array has before and after a resize lies in the same chunk, at the same place. That chunk is kept or rewritten. So no element is moved
+/// from one chunk to another.
 pub fn each_element_stays_in_its_chunk<G: ChunkGridTraits, H: ChunkGridTraits>(
     before: &G,
     after: &H,
@@ -257,8 +257,8 @@ pub fn each_element_stays_in_its_chunk<G: ChunkGridTraits, H: ChunkGridTraits>(
         → (what ≡ Keep) ⊎ (what ≡ Rewrite) }
 {}
 
-/// The chunk of an element that the array no longer has is written again or deleted; that of an element that it gets is written again or new. So no
-/// kept chunk holds what is to leave, or lacks what is to come.
+/// The chunk of an element that the array no longer has is rewritten or deleted. The chunk of an element that it gets is rewritten or created. So no kept chunk
+/// holds what leaves, or lacks what comes.
 pub fn each_element_that_leaves_or_comes_changes_its_chunk<G: ChunkGridTraits, H: ChunkGridTraits>(
     before: &G,
     after: &H,

@@ -21,11 +21,11 @@ use zarrs_chunks::{ArrayIndicesTinyVec, ChunkGridTraits};
 pub enum Change {
     /// It stays as it is stored: it holds the same elements, and has the same shape.
     Keep,
-    /// It has to be written again: elements leave it or come, or it gets another shape.
+    /// It must be rewritten: elements leave it or come, or it gets another shape.
     Rewrite,
-    /// It is to be deleted: it holds no element of the array any more.
+    /// It must be deleted: it holds no element of the array any more.
     Delete,
-    /// It is to be written: it held no element of the array.
+    /// It must be created: it held no element of the array.
     Create,
 }
 
