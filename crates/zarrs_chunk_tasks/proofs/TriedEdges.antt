@@ -12,7 +12,6 @@ use Rattle.std.specs.List.{AllByRecursion, AllZip}
 use Rattle.std.specs.declared.num.NonZeroU64.{NonZeroU64}
 use Rattle.zarrs_chunk_base.specs.ArraySubset.{Box, IsBox, IsEmptyBox, lasts}
 use Rattle.zarrs_chunk_base.specs.Dimension.{Dimension, Holds, InBox, IsChain}
-use Rattle.zarrs_chunk_base.specs.Greatest.{greatest}
 use Rattle.zarrs_chunk_base.proofs.InEach.{length_numbers, length_values}
 use Rattle.zarrs_chunk_axes.specs.Along.{Along}
 use Rattle.zarrs_chunks.specs.Subsets.{IsCover}
@@ -221,10 +220,6 @@ row_in_order units row sorted same is =
 pub as_many_numbers : (rows : List (Vec NonZeroU64 Global)) → map length (rows_of_edges rows) ≡ map length (rows_of rows)
 as_many_numbers [] = refl
 as_many_numbers (row ∷ rows) = ap₂ (λ n ns. n ∷ ns) (length-map row.items non_zero_u64_get) (as_many_numbers rows)
-
-pub as_counted : (rows : List (Vec NonZeroU64 Global)) (shapes : ℕ) → shapes ≡ min greatest (product (map length (rows_of rows)))
-    → shapes ≡ min greatest (product (map length (rows_of_edges rows)))
-as_counted rows shapes is = is ∙ ap (λ many. min greatest (product many)) (sym (as_many_numbers rows))
 
 pub rows_more : (units : List Units) (k : ℕ) (along : Units) (rows after : List (Vec NonZeroU64 Global)) (row : Vec NonZeroU64 Global) → k < length units
     → AllZip IsRow (take k units) (rows_of_edges rows) → IsRow (get_or units k along) (edges_in row.items) → after ≡ rows ++ row ∷ []

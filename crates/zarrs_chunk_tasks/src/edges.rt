@@ -52,7 +52,7 @@ struct Units {
 ///
 /// Along each dimension an edge is made of whole units. A unit is as long as the longest chunk of the source, of those that hold some of the region, or as the
 /// longest one of the target. An edge has the least number of units that cuts the region into at most one piece, two, three and so on. It is cut to the region's
-/// size. If there are more than 2^16 units along a dimension, the number of pieces at least doubles from one edge to the next. If there are more than 2^17 shapes,
+/// size. If there are more than 2^16 units along a dimension, the number of pieces at least doubles from one edge to the next. If so, or if there are more than 2^17 shapes,
 /// every second edge is left out along the dimension that has the most, until there are no more than 2^14 shapes, divided by
 /// the number of dimensions. The shortest edges stay.
 ///
@@ -84,16 +84,18 @@ pub(crate) fn tried_edges<G: ChunkGridTraits, H: ChunkGridTraits>(
 {
     let units = units_along(alloc, source, target, region, moved)?;
     let rows = all_edges(alloc, &units, false)?;
-    if choices_of(&rows) > MOST_SHAPES {
-        let rows = all_edges(alloc, &units, true)?;
-        let most = choices_for(SOME_SHAPES, units.len());
+    if are_all_tried(&units, &rows) {
         return Ok(TriedEdges {
-            rows: thinned(alloc, rows, most)?,
-            are_all: false,
+            rows,
+            are_all: true,
         });
     }
-    let are_all = are_few(&units);
-    Ok(TriedEdges { rows, are_all })
+    let rows = all_edges(alloc, &units, true)?;
+    let most = choices_for(SOME_SHAPES, units.len());
+    Ok(TriedEdges {
+        rows: thinned(alloc, rows, most)?,
+        are_all: false,
+    })
 }
 
 /// Finds what the edges along each dimension are made of.
@@ -155,6 +157,20 @@ fn longest_edges<G: ChunkGridTraits>(
         edges.push(longest_along(alloc, grid, dimension, first[dimension], many[dimension])?)?;
     }
     Ok(edges)
+}
+
+/// Whether each edge is tried along each dimension, and each shape that the edges in these rows make.
+fn are_all_tried(units: &[Units], rows: &[Vec<NonZeroU64>]) -> bool
+    requires { AllByRecursion IsSome units.now }
+    ensures few { IsTrue result → AllByRecursion IsFew units.now }
+    ensures few_shapes { IsTrue result → product (map length (rows_of rows.now)) ≤ most_shapes }
+    ensures all { AllByRecursion IsFew units.now
+        → product (map length (rows_of rows.now)) ≤ most_shapes → IsTrue result }
+{
+    if !are_few(units) {
+        return false;
+    }
+    choices_of(rows) <= MOST_SHAPES
 }
 
 /// Whether each edge is tried along each dimension.
