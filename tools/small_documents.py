@@ -238,7 +238,7 @@ PLANS = {
 }
 # Tasks are chosen among shapes. In arrays of the other forms there can be very many, and the choice may take minutes.
 CHOSEN = [name for name in PLANS if "stage" in name]
-FORMS_CHOSEN = [few, huge, millions, flat]
+FORMS_CHOSEN = [few, huge, millions, flat, split]
 
 
 def plan(array, members):
