@@ -17,7 +17,7 @@ from extensions import GREATEST, GRIDS, Refused
 from random_arrays import Generator
 
 COUNTS = ["chunks_read", "chunks_written", "elements_decoded", "elements_moved", "largest_task", "tasks"]
-# Up to how many chunks along a dimension tasks are counted, if a grid isn't regular.
+# Up to how many chunks along a dimension tasks are counted, if it isn't regular in both arrays.
 MOST_TO_COUNT = 2**20
 TOO_MANY = f"more than {MOST_TO_COUNT} chunks along a dimension, so the tasks aren't counted"
 # Up to how many groups along a dimension that is regular in both arrays they are gone through here.
@@ -108,13 +108,12 @@ def products_of(counts):
 
 
 def are_few(rows):
-    """Whether both grids are regular, or few enough chunks of either hold some of the region along each dimension."""
-    if not any(d.listed for row in rows for d in row[:2]):
-        return True
+    """Whether few enough chunks of either array hold some of the region along each dimension that isn't regular in both."""
     if any(size == 0 for *_, size, _ in rows):
         return True
-    met = [chunks_met(*end, size) for source, target, first, at, size, _ in rows for end in ((source, first), (target, at))]
-    return max(met) <= MOST_TO_COUNT
+    listed = [row for row in rows if row[0].listed or row[1].listed]
+    met = [chunks_met(*end, size) for source, target, first, at, size, _ in listed for end in ((source, first), (target, at))]
+    return max(met, default=0) <= MOST_TO_COUNT
 
 
 def chunks_met(dimension, start, size):
