@@ -1,4 +1,4 @@
-use Rattle.programs.proofs.chunkplan.Common.{◌≡◌, ◌∙◌, ap, begin_of_task, unbroken}
+use Rattle.programs.proofs.chunkplan.Common.{◌≡◌, ap, begin_of_task, unbroken}
 use Rattle.programs.proofs.chunkplan.Tokens.{then, wrote}
 use Rattle.programs.proofs.chunkplan.line.task_begin.Goals as goal
 

@@ -1,4 +1,4 @@
-use Rattle.programs.proofs.chunkplan.Common.{◌≡◌, ◌∙◌, ap, middle_of_task, unbroken}
+use Rattle.programs.proofs.chunkplan.Common.{◌≡◌, ap, middle_of_task, unbroken}
 use Rattle.programs.proofs.chunkplan.Tokens.{then, wrote}
 use Rattle.programs.proofs.chunkplan.line.task_middle.Goals as goal
 
