@@ -230,7 +230,7 @@ fn cheaper(one: TwoStages, other: TwoStages) -> TwoStages
 }
 
 /// Chooses the tasks of both stages, by an intermediate array in chunks of this shape. `None` if no tasks fit, or if they cost the bound or more. The tasks of the
-/// second stage aren't looked for if those of the first one already cost so much.
+/// second stage aren't looked for if the first one already costs so much.
 ///
 /// # Errors
 /// Out of memory.

@@ -19,7 +19,7 @@ pub(crate) fn choices_of<T>(rows: &[Vec<T>]) -> u64
     choices
 }
 
-/// How many choices are made of so many dimensions: fewer if these are more, since each choice takes the longer. It is at least one.
+/// How many choices are made, at least one: of all of them divided by the number of dimensions, since a choice of more takes longer.
 pub(crate) fn choices_for(all: u64, dimensions: usize) -> u64
     ensures some { 0 < result }
     ensures within { 0 < all → result ≤ all }
