@@ -19,7 +19,7 @@ pub(crate) fn choices_of<T>(rows: &[Vec<T>]) -> u64
     choices
 }
 
-/// How many choices are made, at least one: of all of them divided by the number of dimensions, since a choice of more takes longer.
+/// How many choices are made: `all` divided by the number of dimensions, since a choice in more dimensions takes longer; but at least one.
 pub(crate) fn choices_for(all: u64, dimensions: usize) -> u64
     ensures some { 0 < result }
     ensures within { 0 < all → result ≤ all }
