@@ -1,5 +1,5 @@
 -- The cheapest two stages, by one intermediate array.
-use Rattle.std.proofs.Common.{◌≡◌, ◌∙◌, ℕ, zero, suc, ◌+◌, ◌*◌, ◌/◌, ◌%◌, ◌<◌, ◌≤◌, IsTrue, List, [], ◌∷◌, ◌++◌, Vec, Global, Bool, true, false, IfSome, MatchOption, Option, None, Some, drop, length, map, slice_index_or, refl, ap, ap₂, subst, sym, arith, ⊎_elim, ◌&&◌, replicate}
+use Rattle.std.proofs.Common.{◌≡◌, ◌∙◌, ℕ, zero, suc, ◌+◌, ◌*◌, ◌/◌, ◌%◌, ◌<◌, ◌≤◌, IsTrue, List, [], ◌∷◌, ◌++◌, Vec, Global, Bool, true, false, IfSome, MatchOption, Option, None, Some, drop, length, map, min, slice_index_or, refl, ap, ap₂, subst, sym, arith, ⊎_elim, ◌&&◌, replicate}
 use Rattle.std.proofs.Math.Nat.{div-eq_of_lt-le, mod-add-div', mod-lt, mul-le-mul_right, mul_comm}
 use Rattle.std.proofs.lemmas.List.{append-nil, drop_all, length-map}
 use Rattle.std.proofs.lemmas.Bool.{and_from, cases_lt, true≢false}
@@ -13,6 +13,7 @@ use Rattle.zarrs_chunk_plan.specs.ArrayBoxes.{array_box}
 use Rattle.zarrs_chunk_plan.specs.Region.{CanBeMoved, EndWithin}
 use Rattle.zarrs_chunk_plan.proofs.MovedBoxes.{whole_within}
 use Rattle.zarrs_chunk_tasks.specs.Cheapest.{FindsTasks, IsChosen}
+use Rattle.zarrs_chunk_tasks.specs.Counts.{greatest_of_128}
 use Rattle.zarrs_chunk_tasks.specs.Stages.{BothCostAtLeast, CostAtLeast, NoneFit, NoneOfBothFit}
 use Rattle.zarrs_chunk_tasks.specs.declared.between.Compared.{Compared}
 use Rattle.zarrs_chunk_tasks.specs.declared.between.TwoStages.{TwoStages}
@@ -158,13 +159,13 @@ module _ (source target : List Dimension) (region : Box) (at : List ℕ) (most w
   pub second_none : NoneFit between target (array_box between) at most → NoneOfBothFit source target region at most between
   second_none none = λ one other tasks others fit. none other others fit.1
 
-  -- where both stages cost a bound or more, none cost less
-  pub bound_reached : (least : ℕ) (bound : Option ℕ) → BothCostAtLeast source target region at most between worth least → ¬ IsBelow bound least
-      → NoneIsBelow source target region at most worth between bound
-  bound_reached least None at_least reached = absurd (reached tt)
-  bound_reached least (Some cost) at_least reached = λ one other tasks others fit.
-      let (a, b, is_a, is_b, up_to) = at_least one other tasks others fit in
-      (a, b, is_a, is_b, omega (arith, up_to, not_less least cost reached))
+  -- where both stages cost a bound or more together, none cost less
+  pub bound_reached : (a b together : ℕ) (bound : Option ℕ) → first_fits a → second_fits b → together ≡ min (a + b) greatest_of_128
+      → ¬ IsBelow bound together → NoneIsBelow source target region at most worth between bound
+  bound_reached a b together None first second is reached = absurd (reached tt)
+  bound_reached a b together (Some cost) first second is reached = λ one other tasks others fit.
+      let (c, d, is_c, is_d, up_to) = both_at_least a b together first second (omega (arith, is)) one other tasks others fit in
+      (c, d, is_c, is_d, omega (arith, up_to, not_less together cost reached))
     where
       not_less : (n m : ℕ) → ¬ (n < m) → m ≤ n
       not_less n m not = omega (arith, not)

@@ -152,8 +152,8 @@ pub fn the_other_way_round_has_the_same_tasks<G: ChunkGridTraits>(grid: &G)
         (map exchanged tasks) }
 {}
 
-/// There is a list of tasks for the copy of each region that lies in both arrays, and each list of chunks a task. It may be empty. By groups of the
-/// target's chunks, the moved box has to be a box.
+/// There is a list of tasks for the copy of each region that lies in both arrays, and each list of chunks a task. It may be empty. If the
+/// groups are of the target's chunks, the moved box has to be a box.
 pub fn there_are_tasks<G: ChunkGridTraits, H: ChunkGridTraits>(
     source: &G,
     target: &H,

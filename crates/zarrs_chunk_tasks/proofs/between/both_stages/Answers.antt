@@ -1,7 +1,7 @@
 use Rattle.std.proofs.Common.{◌∙◌, ap, arith, subst, sym, refl}
 use Rattle.std.proofs.lemmas.Bool.{true≢false}
 use Rattle.zarrs_chunk_base.specs.ArraySubset.{Box}
-use Rattle.zarrs_chunk_tasks.proofs.TwoStages.{both_at_least, bound_reached, exact_at_least, first_none, none_below, none_fits, second_none}
+use Rattle.zarrs_chunk_tasks.proofs.TwoStages.{bound_reached, exact_at_least, first_none, none_below, none_fits, second_none}
 use Rattle.zarrs_chunk_plan.specs.ArrayBoxes.{array_box}
 use Rattle.zarrs_chunk_tasks.specs.Stages.{CostAtLeast}
 use Rattle.zarrs_chunk_tasks.proofs.OneGrid.{one_grid}
@@ -20,23 +20,13 @@ returns-in_default g c =
 
 pub returns-then-not-is_below : goal.returns-then-not-is_below
 returns-then-not-is_below g c =
-    let source = g.G.ChunkGridTraits.dimensions c.args.staged.now.source.now in
-    let target = g.H.ChunkGridTraits.dimensions c.args.staged.now.target.now in
-    let region = c.args.staged.now.region.now in
-    let at = c.args.staged.now.moved.now.start in
-    let most = c.args.staged.now.max_elements in
-    let worth = c.args.staged.now.read_elements in
     let least = rw (c.deref.ensures.value, c.in-Some.is) at (c.in_ok-least.ensures {u = tt}) in
-    let both =
-    both_at_least source target region at most worth least.between c.in-Some.least.write c.in-Some.least.read c.saturating_add.result least.is_least.write
-    least.is_least.read (omega (arith, c.saturating_add.ensures))
-    in
     record {
       between = least.between;
       made = least.made;
       finds =
-          bound_reached source target region at most worth least.between c.saturating_add.result c.args.bound both
-          (λ below. true≢false (sym (c.is_below.ensures.1 below) ∙ c.if-not-is_below.true));
+          bound_reached _ _ _ _ _ _ least.between c.in-Some.least.write c.in-Some.least.read c.saturating_add.result c.args.bound least.is_least.write
+          least.is_least.read c.saturating_add.ensures (λ below. true≢false (sym (c.is_below.ensures.1 below) ∙ c.if-not-is_below.true));
     }
 
 pub returns-in_default-2 : goal.returns-in_default-2
@@ -54,30 +44,24 @@ returns-in_default-2 g c =
 
 pub returns-then-not-is_below-2 : goal.returns-then-not-is_below-2
 returns-then-not-is_below-2 g c =
-    let source = g.G.ChunkGridTraits.dimensions c.args.staged.now.source.now in
-    let target = g.H.ChunkGridTraits.dimensions c.args.staged.now.target.now in
-    let region = c.args.staged.now.region.now in
-    let at = c.args.staged.now.moved.now.start in
-    let most = c.args.staged.now.max_elements in
-    let worth = c.args.staged.now.read_elements in
     let between = (regular_of c.in_ok-grid.grid).dimensions in
     let array = (c.in_ok-array.ensures {u = tt}).elements in
     let found = rw (c.in_ok-first.ensures {u = tt}) at c.cheapest_tasks-first.ensures.choice in
     let chosen = rw (c.in-Some-2.is, c.start.ensures.value, array) at (found c.requires.can.some) in
     let made = rw (c.shape.ensures.value, c.deref-2.ensures.value) at (c.in_ok-grid.ensures {u = tt}).made in
     let least = rw (c.deref.ensures.value, c.in-Some.is) at (c.in_ok-least.ensures {u = tt}) in
+    let target = g.H.ChunkGridTraits.dimensions c.args.staged.now.target.now in
+    let at = c.args.staged.now.moved.now.start in
+    let most = c.args.staged.now.max_elements in
+    let worth = c.args.staged.now.read_elements in
     let read = subst (λ ds. CostAtLeast ds target (array_box ds) at most worth c.in-Some.least.read) (one_grid _ _ _ _ least.made made) least.is_least.read in
-    let first = exact_at_least source between region (array_box between).start most worth c.in-Some-2.first chosen c.if-first.true in
-    let both =
-    both_at_least source target region at most worth between c.in-Some-2.first.cost c.in-Some.least.read c.saturating_add-then-first.result first read
-    (omega (arith, c.saturating_add-then-first.ensures))
-    in
+    let first = exact_at_least _ between _ _ _ _ c.in-Some-2.first chosen c.if-first.true in
     record {
       between = between;
-      made = rw (c.shape.ensures.value, c.deref-2.ensures.value) at (c.in_ok-grid.ensures {u = tt}).made;
+      made = made;
       finds =
-          bound_reached source target region at most worth between c.saturating_add-then-first.result c.args.bound both
-          (λ below. true≢false (sym (c.is_below-then-first.ensures.1 below) ∙ c.if-not-is_below-2.true));
+          bound_reached _ _ _ _ _ _ between c.in-Some-2.first.cost c.in-Some.least.read c.saturating_add-then-first.result c.args.bound first read
+          c.saturating_add-then-first.ensures (λ below. true≢false (sym (c.is_below-then-first.ensures.1 below) ∙ c.if-not-is_below-2.true));
     }
 
 pub returns-in_default-3 : goal.returns-in_default-3
