@@ -1,4 +1,4 @@
-use Rattle.std.proofs.Common.{◌∙◌, ap, arith, subst, sym, refl}
+use Rattle.std.proofs.Common.{◌∙◌, ap, subst, sym, refl}
 use Rattle.std.proofs.lemmas.Bool.{true≢false}
 use Rattle.zarrs_chunk_base.specs.ArraySubset.{Box}
 use Rattle.zarrs_chunk_tasks.proofs.TwoStages.{bound_reached, exact_at_least, first_none, none_below, none_fits, second_none}
