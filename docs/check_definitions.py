@@ -28,6 +28,9 @@ TAKEN = re.compile(r"^use Rattle\.(\w+)\.specs\.([\w.]+)\.\{([^}]*)\}", re.M)
 QUOTED = re.compile(r"`([^`\s]+)`(?: of `([\w:]+)`)?")
 # What a file takes from a folder `seen` or `lemmas`.
 INNER = re.compile(r"^ *(?:ghost )?(?:pub )?use Rattle\.(\w+)\.specs\.((?:\w+\.)*(?:seen|lemmas)\.(?!declared)[\w.]+)\.\{([^}]*)\}", re.M)
+# A walk, and what its `next` promises.
+WALK = re.compile(r"^impl.* Iterator for ")
+GHOST = re.compile(r"    ghost \w+ = \{")
 # The first line of a public function; in a public trait, of any function.
 PUBLIC = re.compile(r'( *)pub (?:const |unsafe |extern "C" )*fn ')
 IN_TRAIT = re.compile(r"(    )(?:final )?fn ")
@@ -84,10 +87,13 @@ def places():
 
 
 def public_contracts(path):
-    """The text of each public function of a source, up to its body."""
-    contract, indent, in_trait = None, "", False
+    """The text of each public function of a source, up to its body, and what each walk's `next` promises."""
+    contract, indent, in_trait, in_walk = None, "", False, False
     for line in path.read_text().splitlines():
         in_trait = line.startswith("pub trait ") or (in_trait and line != "}")
+        in_walk = bool(WALK.match(line)) or (in_walk and line != "}")
+        if in_walk and GHOST.match(line):
+            yield line
         begins = PUBLIC.match(line) or (in_trait and IN_TRAIT.match(line))
         if begins and contract is None:
             contract, indent = [], begins[1]
@@ -117,8 +123,9 @@ def text_of(path, name):
 
 
 def believed(crate):
-    """What the public contracts of a crate and the files at the top of its `specs/` use of folders `seen` and `lemmas`, and what that uses."""
-    new = {found for path in crate.glob("specs/*.antt") for found in inner(path, path.read_text())}
+    """What the public contracts of a crate and its definitions outside of folders `seen` and `lemmas` use of these folders, and what that uses."""
+    outer = [path for path in crate.glob("specs/**/*.antt") if not {"seen", "lemmas"} & set(path.parts)]
+    new = {found for path in outer for found in inner(path, path.read_text())}
     new |= {found for path in crate.glob("src/**/*.rt") for text in public_contracts(path) for found in inner(path, text)}
     seen = set()
     while new:

@@ -2,7 +2,9 @@
 ghost use Rattle.std.specs.Prelude.{◌≡◌, ◌⊎◌, IfErr, IfOk};
 ghost use Rattle.zarrs_chunk_keys.specs.seen.Encodings.{encoding_in};
 ghost use Rattle.zarrs_chunk_base.specs.Dimension.{array_sizes};
-ghost use Rattle.zarrs_chunks.specs.seen.Grids.{grid_in};
+ghost use Rattle.zarrs_chunk_base.specs.Kinds.{IsOf};
+ghost use Rattle.zarrs_chunks.specs.GridKinds.{grid_kind};
+ghost use Rattle.zarrs_chunks.specs.seen.Grids.{grid_in, kind_in};
 ghost use Rattle.documents.specs.StorageMetadata.{IsStored, IsCreateFault, stored_of};
 ghost use Rattle.documents.specs.declared.storage_metadata.CreateFault.TheVariants.{Memory};
 
@@ -43,6 +45,8 @@ impl StorageMetadata {
     ) -> Result<StoredArray<ChunkGrid, ChunkKeyEncoding>, CreateFault>
         ensures made { IfOk result (λ made. IsStored (stored_of self) shape.now
             (grid_in made.grid) (encoding_in made.encoding)) }
+        ensures kind { IfOk result (λ made. IsOf (grid_kind (kind_in made.grid))
+            (stored_of self).chunk_grid shape.now (grid_in made.grid)) }
         ensures sizes { IfOk result (λ made. array_sizes (grid_in made.grid).dimensions
             ≡ shape.now) }
         ensures refused { IfErr result (λ fault. (fault ≡ Memory)
@@ -62,6 +66,8 @@ impl StorageMetadata {
     ) -> Result<StoredArray<ChunkGrid, ChunkKeyEncoding>, CreateFault>
         ensures made { IfOk result (λ made. IsStored (stored_of self.now) shape.now
             (grid_in made.grid) (encoding_in made.encoding)) }
+        ensures kind { IfOk result (λ made. IsOf (grid_kind (kind_in made.grid))
+            (stored_of self.now).chunk_grid shape.now (grid_in made.grid)) }
         ensures sizes { IfOk result (λ made. array_sizes (grid_in made.grid).dimensions
             ≡ shape.now) }
         ensures refused { IfErr result (λ fault. (fault ≡ Memory)

@@ -19,7 +19,7 @@
 //! | `line` | one line |
 //! | `part_ranges` | the byte ranges of a part, as a line has them |
 //! | `counting` | the counts of a plan, and the counts of all stages of a copy by tasks, as one line |
-//! | `missing` | what is left of a plan beside keys |
+//! | `resume` | what is left of a plan beside keys |
 //! | `product` | products of numbers, in decimal digits |
 //! | `run_fault` | why a run stops |
 ghost use Rattle.std.specs.Prelude.{◌≡◌, ◌≤◌, ◌⊎◌, [], ℕ, false, IfErr, IfOk, IfSome, List, MatchResult, Err, OnErr, OnOk, Some, codes, true};

@@ -20,7 +20,8 @@ impl Lines {
     ghost use Rattle.std.specs.Prelude.{◌≡◌, ◌<◌, ◌++◌, ◌∷◌, [], ℕ, List, IfErr, IfOk, IfSome, MatchResult, OnOk, Some, false, true};
     ghost use Rattle.std.specs.Io.BufRead.{drop_through, take_through};
     ghost use Rattle.streams.specs.Watched.{IsReadFailure, has_failed, watched};
-    ghost use Rattle.streams.specs.seen.Lines.{IsCutOff, IsNextByte, left, unread};
+    ghost use Rattle.streams.specs.OneLine.{line_feeds};
+    ghost use Rattle.streams.specs.seen.Lines.{HasBegun, IsCutOff, IsNextByte, left, unread};
     ghost use Rattle.streams.specs.declared.stream_fault.StreamFault.TheVariants.{Read as ReadFailed};
 
     /// Nothing was read yet.
@@ -51,6 +52,9 @@ impl Lines {
         ensures end { IfOk result (λ ended. ended ≡ false
             → IfSome (left self.old (R.remaining (watched reader.old)))
             (λ bytes. drop_through 10 bytes ≡ [])) }
+        ensures unended { IfOk result (λ ended. ended ≡ false
+            → IfSome (left self.old (R.remaining (watched reader.old)))
+            (λ bytes. line_feeds bytes ≡ 0)) }
         ensures longer { IfOk result (λ ended. ended ≡ true
             → length line.old.items < length line.new.items) }
         ensures ended { IfOk result (λ ended. ended ≡ true → (text : List ℕ)
@@ -85,8 +89,15 @@ impl Lines {
             (λ rest. bytes.new.items ≡ bytes.old.items ++ rest)) }
         ensures end { OnOk result (IfSome (left self.old (R.remaining (watched reader.old)))
             (λ _. R.remaining (watched reader.new) ≡ Some [])) }
+        ensures behind { OnOk result (IfSome (left self.old (R.remaining (watched reader.old)))
+            (λ _. left self.new (R.remaining (watched reader.new)) ≡ Some [])) }
         ensures failed { MatchResult result (λ _. has_failed reader.new ≡ has_failed reader.old)
             (λ fault. IsReadFailure fault (has_failed reader.old) (has_failed reader.new)) }
+        ensures cut { IfErr result (λ fault. fault ≡ ReadFailed
+            → IfSome (left self.old (R.remaining (watched reader.old)))
+            (λ rest. HasBegun bytes.old.items bytes.new.items rest
+            (R.remaining (watched reader.new)))) }
+        ensures none_unread { IfErr result (λ fault. fault ≡ ReadFailed → unread self.new ≡ []) }
     {
         while self.read_line(reader, bytes)? {}
         Ok(())

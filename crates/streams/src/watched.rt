@@ -11,13 +11,14 @@ pub struct Watched<T> {
 }
 
 impl<T> Watched<T> {
-    ghost use Rattle.std.specs.Prelude.{◌≡◌, false};
+    ghost use Rattle.std.specs.Prelude.{◌≡◌, false, true};
     ghost use Rattle.streams.specs.Watched.{watched, has_failed, is_flushed};
 
     /// Watches a reader or writer, of which no call has failed yet.
     pub fn new(inner: T) -> Watched<T>
         ensures inner { watched result ≡ inner }
         ensures failed { has_failed result ≡ false }
+        ensures flushed { is_flushed result ≡ true }
     {
         Watched {
             inner,

@@ -3,7 +3,7 @@
 use Rattle.std.specs.Prelude.{◌≡◌, ◌⊎◌, ℕ, List, MatchResult, length}
 use Rattle.zarrs_chunk_base.specs.Grid.{Grid}
 use Rattle.zarrs_chunk_keys.specs.ChunkKey.{Encoding}
-use Rattle.zarrs_chunk_prepared.specs.Prepared.{IsPreparedGrid, IsWrittenGrid}
+use Rattle.zarrs_chunk_prepared.specs.Prepared.{AreTables, IsPreparedGrid, IsWrittenGrid, Table}
 use Rattle.zarrs_chunk_prepared.specs.PreparedEncoding.{IsPreparedEncoding}
 use Rattle.zarrs_chunk_batches.specs.Batch.{AreKept, IsTooLong, IsWhole}
 use Rattle.zarrs_chunk_batches.specs.Calls.{Call, EndsForEach, Request}
@@ -21,9 +21,15 @@ prepare_grid_call shape metadata numbers needed =
       Answers = λ grid. IsWhole (λ written. IsWrittenGrid written grid) numbers needed;
     })
 
--- A request of prepared numbers ends as it does of the grid whose they are. Of other numbers nothing is said.
-abbrev pub EndsForPrepared : (numbers : List ℕ) → Request Grid → End → Type 0
-EndsForPrepared numbers = EndsForEach (IsPreparedGrid numbers)
+-- the numbers are refused, or memory ran out
+abbrev pub IsUnread : End → Type 0
+IsUnread end = MatchResult end (λ _. ⊥) (λ fault. (fault ≡ Memory) ⊎ (fault ≡ NotPrepared))
+
+-- A request of prepared numbers ends as it does of the grid whose they are. Numbers that are no mark with tables behind it are refused, or memory runs
+-- out. Of tables that are no grid's nothing is said.
+pub record EndsForPrepared (numbers : List ℕ) (request : Request Grid) (end : End) : Type 0 where
+  pub of_grid : EndsForEach (IsPreparedGrid numbers) request end
+  pub of_none : ((tables : List Table) → ¬ AreTables numbers tables) → IsUnread end
 
 -- of the grid whose they are, the lists without an answer are as they were
 abbrev pub AreKeptForPrepared : (numbers before after marks : List ℕ) → Type 0
@@ -36,10 +42,6 @@ prepare_encoding_call metadata numbers needed =
     encoding_call metadata (encoding_request (Unit {0})
     (λ encoding fault. (fault ≡ Short) × IsTooLong (λ prepared. IsPreparedEncoding prepared encoding) numbers needed)
     (λ encoding. IsWhole (λ prepared. IsPreparedEncoding prepared encoding) numbers needed))
-
--- the numbers are refused, or memory ran out
-abbrev pub IsUnread : End → Type 0
-IsUnread end = MatchResult end (λ _. ⊥) (λ fault. (fault ≡ Memory) ⊎ (fault ≡ NotPrepared))
 
 -- A request of prepared numbers ends as it does of the encoding whose they are. Numbers of no encoding are refused, or memory runs out.
 pub record EndsForPreparedKeys (numbers : List ℕ) (request : Request Encoding) (end : End) : Type 0 where

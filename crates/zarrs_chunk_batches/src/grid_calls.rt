@@ -1,12 +1,12 @@
 //! The call that prepares a grid, and what is asked of a prepared one.
-ghost use Rattle.std.specs.Prelude.{◌≡◌, ◌⊎◌, IfOk, MatchResult, OnOk, drop, length};
+ghost use Rattle.std.specs.Prelude.{◌≡◌, ◌⊎◌, IfOk, List, MatchResult, OnOk, drop, length};
 ghost use Rattle.zarrs_chunk_base.specs.Grid.{Grid};
 ghost use Rattle.zarrs_chunk_batches.specs.Batch.{AreLengths};
 ghost use Rattle.zarrs_chunk_batches.specs.Calls.{IfWritten, IsEndOf, IsKeptIfShort};
 ghost use Rattle.zarrs_chunk_batches.specs.GridCalls.{chunk_boxes_request, chunk_indices_request, covers_request, grid_shape_request, homes_request};
 ghost use Rattle.zarrs_chunk_batches.specs.PreparedCalls.{AreKeptForPrepared, EndsForPrepared, prepare_grid_call};
 ghost use Rattle.zarrs_chunk_batches.specs.declared.codes.Fault.TheVariants.{Length, Memory, NotPrepared};
-ghost use Rattle.zarrs_chunk_prepared.specs.Prepared.{IsPreparedGrid};
+ghost use Rattle.zarrs_chunk_prepared.specs.Prepared.{AreTables, IsPreparedGrid, Table};
 ghost use Rattle.zarrs_chunk_prepared.specs.seen.PreparedGrid.{IsReadOf, width_of};
 
 use crate::batch::answer_all;
@@ -49,10 +49,11 @@ fn read_grid<'a>(
     numbers: &'a [u64],
     look_ups: usize,
 ) -> Result<PreparedGrid<'a>, Fault>
-    ensures { MatchResult result
+    ensures read { MatchResult result
         (λ prepared. (grid : Grid) → IsPreparedGrid numbers.now grid → IsReadOf grid prepared)
         (λ fault. (fault ≡ Memory) ⊎ ((fault ≡ NotPrepared)
         × ((grid : Grid) → ¬ IsPreparedGrid numbers.now grid))) }
+    ensures tables { IfOk result (λ _. (tables : List Table) × AreTables numbers.now tables) }
 {
     match PreparedGrid::read(alloc, numbers, look_ups)? {
         Some(grid) => Ok(grid),
@@ -75,6 +76,8 @@ fn read_fitting<'a>(
         (λ prepared. IsReadOf grid prepared × AreLengths (length grid.dimensions) count totals.now)
         (λ fault. (fault ≡ Memory) ⊎ ((fault ≡ Length)
         × ¬ AreLengths (length grid.dimensions) count totals.now)) }
+    ensures of_none { ((tables : List Table) → ¬ AreTables numbers.now tables)
+        → MatchResult result (λ _. ⊥) (λ fault. (fault ≡ Memory) ⊎ (fault ≡ NotPrepared)) }
 {
     let grid = read_grid(alloc, numbers, count)?;
     check_lengths(totals, grid.dimensionality(), count)?;

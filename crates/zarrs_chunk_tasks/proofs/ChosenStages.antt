@@ -42,7 +42,7 @@ numbers_of_shape (_ ∷ _) [] is = absurd is
 
 module _ (source target : List Dimension) (region : Box) (at : List ℕ) (most worth : ℕ) where
   -- a cost that is no greater
-  lower_cost : (cost less : ℕ) → less ≤ cost → CostAtLeast source target region at most worth cost → CostAtLeast source target region at most worth less
+  pub lower_cost : (cost less : ℕ) → less ≤ cost → CostAtLeast source target region at most worth cost → CostAtLeast source target region at most worth less
   lower_cost cost less le at_least = λ each tasks fit. let (its, is, up_to) = at_least each tasks fit in (its, is, omega (arith, up_to, le))
 
   lower_ones : (cost less : ℕ) → less ≤ cost → OnesAreNoCheaper source target region at worth cost → OnesAreNoCheaper source target region at worth less

@@ -1,32 +1,30 @@
 -- The groups that hold some of a box of elements, and what each holds of it.
-use Rattle.std.proofs.Common.{◌≡◌, ◌≢◌, ◌↔◌, ◌∙◌, ℕ, zero, suc, ◌+◌, ◌-◌, ◌*◌, ◌/◌, ◌<◌, ◌≤◌, IsTrue, List, [], ◌∷◌, Contains, length, map, max, min, ap, ap₂, refl}
-use Rattle.std.proofs.Common.{subst, sym, ⊎_elim, arith}
+use Rattle.std.proofs.Common.{◌≡◌, ◌≢◌, ◌↔◌, ◌∙◌, ℕ, zero, suc, ◌+◌, ◌-◌, ◌*◌, ◌/◌, ◌<◌, ◌≤◌, IsTrue, List, [], ◌∷◌, length, map, max, min, ap, ap₂, refl}
+use Rattle.std.proofs.Common.{subst, ⊎_elim, arith}
 use Rattle.std.proofs.lemmas.Bool.{cases_lt}
 use Rattle.std.proofs.lemmas.List.{length-map}
 use Rattle.std.specs.Int.NonZero.{non_zero_u64_get}
 use Rattle.std.specs.List.{AllByRecursion, AllZip}
 use Rattle.std.specs.declared.num.NonZeroU64.{NonZeroU64}
-use Rattle.zarrs_chunk_base.specs.ArraySubset.{AreWithin, Box, IsBox, IsEmptyBox, IsInside, ends, lasts, zero_box}
+use Rattle.zarrs_chunk_base.specs.ArraySubset.{Box, IsBox, IsEmptyBox, IsInside, ends, lasts, zero_box}
 use Rattle.zarrs_chunk_base.specs.Dimension.{Dimension, Holds, InBox, IsChain}
-use Rattle.zarrs_chunk_base.specs.Greatest.{AllFit, greatest}
+use Rattle.zarrs_chunk_base.specs.Greatest.{greatest}
 use Rattle.zarrs_chunk_base.proofs.InEach.{length_numbers, length_values}
 use Rattle.zarrs_chunks.proofs.Boxes.{has_origin}
-use Rattle.zarrs_chunks.proofs.Chains.{apart, at_most_start, earlier_has, in_chain, no_later}
+use Rattle.zarrs_chunks.proofs.Chains.{apart, earlier_has, in_chain, no_later}
 use Rattle.zarrs_chunks.proofs.ChunksInBoxes.{inside_fits}
-use Rattle.zarrs_chunks.proofs.Covers.{chunks_small, firsts_before_lasts, head_some, in_order, is_cover, lasts_small, tail_some}
+use Rattle.zarrs_chunks.proofs.Covers.{chunks_small, firsts_before_lasts, in_order, is_cover, lasts_small}
 use Rattle.zarrs_chunks.proofs.UpTo.{ones_fit}
 use Rattle.zarrs_chunks.specs.Subsets.{IsCover}
-use Rattle.zarrs_chunks.specs.Walks.{counted_from}
 use Rattle.zarrs_chunk_parts.specs.Plan.{AreShared, Meets}
 use Rattle.zarrs_chunk_parts.proofs.Shares.{boxes_are, from_chunk, from_start}
 use Rattle.zarrs_chunk_plan.specs.Region.{shifted}
-use Rattle.zarrs_chunk_plan.specs.seen.Sources.{TakesSome, taken, taken_box, taken_from, taken_sizes, taken_starts}
-use Rattle.zarrs_chunk_plan.proofs.Plans.{covers_some, not_empty_if_inside}
-use Rattle.zarrs_chunk_plan.proofs.SharedBoxes.{as_many, sizes_are, starts_are}
+use Rattle.zarrs_chunk_plan.specs.seen.Sources.{TakesSome, taken_box, taken_from}
+use Rattle.zarrs_chunk_plan.proofs.Plans.{covers_some}
+use Rattle.zarrs_chunk_plan.proofs.SharedBoxes.{sizes_are, starts_are}
 use Rattle.zarrs_chunk_plan.proofs.SomePlan.{has_shape}
-use Rattle.zarrs_chunk_plan.proofs.TakenBoxes.{AllTakeSome, meets_take}
 use Rattle.zarrs_chunk_tasks.specs.Groups.{HoldsSomeOf, InGroup, IsBuffer}
-use Rattle.zarrs_chunk_tasks.specs.seen.GroupNumbers.{counts_to, first_chunks, groups_of, last_chunks, reaches}
+use Rattle.zarrs_chunk_tasks.specs.seen.GroupNumbers.{counts_to, groups_of}
 use Rattle.zarrs_chunk_tasks.specs.seen.Grouped.{all_grouped, grouped}
 use Rattle.zarrs_chunk_tasks.proofs.Grouped.{IsLast, all_chains, holds_its_chunks, in_group_is, last, last_in_group}
 
@@ -159,71 +157,6 @@ fewer long = record {
 abbrev pub AreOver : List Dimension → (start shape first last : List ℕ) → Type 0
 AreOver ds start shape first last = InBox ds first start × InBox ds last (lasts start shape)
 
--- what its first and its last chunk take of a box tells what a group takes
-pub record HasEnds (ds : List Dimension) (each : List NonZeroU64) (start shape first last group : List ℕ) : Type 0 where
-  pub first_takes : AllTakeSome ds start shape (first_chunks each group first)
-  pub last_takes : AllTakeSome ds start shape (last_chunks each group last)
-  pub starts : taken_starts (groups ds each) start group ≡ taken_starts ds start (first_chunks each group first)
-  pub sizes : (begins later counts : List ℕ) → counted_from start begins ≡ taken_starts ds start (first_chunks each group first)
-      → counted_from start later ≡ taken_starts ds start (last_chunks each group last)
-      → counts ≡ taken_sizes ds start shape (last_chunks each group last)
-      → length begins ≡ length ds → length later ≡ length ds → reaches begins later counts ≡ taken_sizes (groups ds each) start shape group
-
-pub has_ends : (ds : List Dimension) (each : List NonZeroU64) (start shape first last group : List ℕ) → AllByRecursion IsChain ds
-    → AsMany ds each start shape first last → (¬ Contains shape 0) → AllFit (ends start shape) → AreOver ds start shape first last
-    → AllTakeSome (groups ds each) start shape group → HasEnds ds each start shape first last group
-has_ends [] [] [] [] [] [] [] chains long some fit over takes =
-    record { first_takes = tt; last_takes = tt; starts = refl; sizes = none } where
-      none : (begins later counts : List ℕ) → counted_from [] begins ≡ [] → counted_from [] later ≡ [] → counts ≡ [] → length begins ≡ 0 → length later ≡ 0
-          → reaches begins later counts ≡ []
-      none [] [] counts is also same m n = refl
-      none (_ ∷ _) later counts is also same m n = absurd (omega arith)
-      none [] (_ ∷ _) counts is also same m n = absurd (omega arith)
-has_ends [] [] [] [] [] [] (_ ∷ _) chains long some fit over takes = absurd takes
-has_ends (d ∷ ds) (k ∷ each) (a ∷ start) (n ∷ shape) (f ∷ first) (l ∷ last) [] chains long some fit over takes = absurd takes
-has_ends (d ∷ ds) (k ∷ each) (a ∷ start) (n ∷ shape) (f ∷ first) (l ∷ last) (t ∷ group) chains long some fit over takes =
-    let size = non_zero_u64_get k in
-    let here = reaching d size a n f l t chains.0 (head_some n shape some) over.0.0 over.1.0 takes.0 in
-    let rest = has_ends ds each start shape first last group chains.1 (fewer long) (tail_some n shape some) fit.1 (over.0.1, over.1.1) takes.1 in
-    let high = over.1.0 in
-    let end : a + n ≤ greatest = fit.0 in
-    let small : l < greatest = omega (arith, at_most_start d chains.0 l high.chunk, high.from) in
-    let first_is : first_in size f t ≡ max (min (t * size) greatest) f = omega (arith, here.begins) in
-    let last_is : last_in size l t ≡ min (min (t * size + (size - 1)) greatest) l = omega arith in
-    record {
-      first_takes = (subst (TakesSome d a n) first_is here.first_takes, rest.first_takes);
-      last_takes = (subst (TakesSome d a n) last_is here.last_takes, rest.last_takes);
-      starts = ap₂ (λ x xs. x ∷ xs) (here.start ∙ ap (taken_from d a) first_is) rest.starts;
-      sizes = more end first_is last_is here rest;
-    } where
-      more : a + n ≤ greatest → first_in (non_zero_u64_get k) f t ≡ max (min (t * non_zero_u64_get k) greatest) f
-          → last_in (non_zero_u64_get k) l t ≡ min (min (t * non_zero_u64_get k + (non_zero_u64_get k - 1)) greatest) l
-          → Reaches d (non_zero_u64_get k) a n f l t → HasEnds ds each start shape first last group
-          → (begins later counts : List ℕ)
-          → counted_from (a ∷ start) begins ≡ taken_starts (d ∷ ds) (a ∷ start) (first_chunks (k ∷ each) (t ∷ group) (f ∷ first))
-          → counted_from (a ∷ start) later ≡ taken_starts (d ∷ ds) (a ∷ start) (last_chunks (k ∷ each) (t ∷ group) (l ∷ last))
-          → counts ≡ taken_sizes (d ∷ ds) (a ∷ start) (n ∷ shape) (last_chunks (k ∷ each) (t ∷ group) (l ∷ last))
-          → length begins ≡ length (d ∷ ds) → length later ≡ length (d ∷ ds)
-          → reaches begins later counts ≡ taken_sizes (groups (d ∷ ds) (k ∷ each)) (a ∷ start) (n ∷ shape) (t ∷ group)
-      more end first_is last_is here rest (b ∷ begins) (e ∷ later) (m ∷ counts) is also sized b_many e_many =
-          let size = non_zero_u64_get k in
-          let first_one = max (min (t * size) greatest) f in
-          let last_one = min (min (t * size + (size - 1)) greatest) l in
-          let from : a + b ≡ taken_from d a first_one = cc in
-          let to : a + e ≡ taken_from d a last_one = cc in
-          let long : m ≡ taken d a n last_one = cc in
-          let others : counted_from start begins ≡ taken_starts ds start (first_chunks each group first) = cc in
-          let others_later : counted_from start later ≡ taken_starts ds start (last_chunks each group last) = cc in
-          let others_long : counts ≡ taken_sizes ds start shape (last_chunks each group last) = cc in
-          let start_is = here.start ∙ ap (taken_from d a) first_is in
-          let end_is = here.end ∙ ap (λ c. min (d.end c) (a + n)) last_is in
-          let some_last = subst (TakesSome d a n) last_is here.last_takes in
-          let order = rw (first_is, last_is) at here.in_order in
-          ap₂ (λ x xs. x ∷ xs) (omega (arith, start_is, end_is, some_last.1)) (rest.sizes begins later counts others others_later others_long (omega arith) (omega arith))
-      more end first_is last_is here rest _ _ _ is also sized b_many e_many = absurd (first_of (cc, omega arith))
-has_ends _ _ _ _ _ _ group chains long some fit over takes =
-    absurd (omega (arith, long.each_many, long.start_many, long.shape_many, long.first_many, long.last_many))
-
 -- ---- boxes
 
 -- so many ranges from 0 to 0 are empty, if there are some
@@ -240,16 +173,6 @@ shares ds b chunk is_box meets =
     let (edges, long) = has_shape ds chunk index box in
     let (_, _, shared) = boxes_are ds b chunk origin edges is_box meets is long in
     (from_chunk origin edges b, from_start origin edges b, shared)
-
--- a chunk that takes some of a range in each dimension holds an element of the box
-holds_first : (ds : List Dimension) (at shape chunk : List ℕ) → AllTakeSome ds at shape chunk
-    → InBox ds chunk (taken_starts ds at chunk) × AreWithin at shape (taken_starts ds at chunk)
-holds_first [] [] [] [] takes = (tt, tt)
-holds_first (d ∷ ds) (a ∷ at) (n ∷ shape) (c ∷ chunk) takes =
-    let (box, within) = holds_first ds at shape chunk takes.1 in
-    let (has, some) = takes.0 in
-    ((record { chunk = has; from = omega arith; below = omega arith }, box), (omega arith, omega arith, within))
-holds_first _ _ _ _ takes = absurd takes
 
 -- a group that holds an element has a number for each dimension
 pub group_long : (ds : List Dimension) (each : List NonZeroU64) (group index : List ℕ) → InGroup ds (numbers each) group index → length each ≡ length ds
@@ -360,38 +283,3 @@ module _ (ds : List Dimension) (each : List NonZeroU64) (chains : AllByRecursion
         let holds = meets_as_chunk elements group in
         let named = (covers_some (groups ds each) elements (groups_from each cover) are_chains is_box some (is_group_cover some)).named group in
         (λ within. holds.1 (named.0 within), λ has. named.1 (holds.0 has))
-
-    module _ (group : List ℕ) (holds : HoldsSomeOf ds (numbers each) elements group) where
-      abbrev pub first : List ℕ
-      first = first_chunks each group cover.start
-
-      abbrev pub last_one : List ℕ
-      last_one = last_chunks each group (lasts cover.start cover.shape)
-
-      meets : Meets (groups ds each) elements group
-      meets = (meets_as_chunk elements group).0 holds
-
-      at_ends : HasEnds ds each elements.start elements.shape cover.start (lasts cover.start cover.shape) group
-      at_ends =
-          has_ends ds each _ _ _ _ group chains as_many_each (not_empty_if_inside elements.start elements.shape holds.0 holds.1) is_box.fits over
-          (meets_take (groups ds each) elements group meets)
-
-      pub first_meets : Meets ds elements first
-      first_meets = let (box, inside) = holds_first ds elements.start elements.shape first at_ends.first_takes in (_, box, inside)
-
-      pub last_meets : Meets ds elements last_one
-      last_meets = let (box, inside) = holds_first ds elements.start elements.shape last_one at_ends.last_takes in (_, box, inside)
-
-      -- from what the two chunks are found to share with the elements follows what the group holds
-      pub buffer_is : (in_first in_elements in_last also_elements : Box) → AreShared ds elements first in_first in_elements
-          → AreShared ds elements last_one in_last also_elements
-          → IsBuffer ds (numbers each) elements group
-          (shifted elements.start (record { start = in_elements.start; shape = reaches in_elements.start also_elements.start also_elements.shape }))
-      buffer_is in_first in_elements in_last also_elements shared also =
-          let starts = starts_are ds elements first first_meets in_first in_elements shared in
-          let sizes = at_ends.sizes in_elements.start also_elements.start also_elements.shape starts
-          (starts_are ds elements last_one last_meets in_last also_elements also) (sizes_are ds elements last_one last_meets in_last also_elements also)
-          (as_many ds elements first first_meets in_first in_elements shared) (as_many ds elements last_one last_meets in_last also_elements also)
-          in
-          let same = starts ∙ sym at_ends.starts in
-          rw (same, sizes) (taken_is_buffer elements group is_box meets)

@@ -54,7 +54,8 @@ all_taking : (ds : List Dimension) (each : List NonZeroU64) (start shape first l
     (slice_index_or last k 0) (slice_index_or group k 0) (slice_index_or groups_ k 0)) ds k
 all_taking (d ∷ ds) (k ∷ each) (a ∷ start) (n ∷ shape) (f ∷ first) (l ∷ last) (t ∷ group) (m ∷ groups_) any zero long lies e g some many fit fit_groups over takes
     within = record {
-      over = record { some = head_some n shape some; fits = fit.0; within = lies.0; low = over.0.0; high = over.1.0 };
+      over = record { some = head_some n shape some; fits = fit.0; low = over.0.0; high = over.1.0 };
+      within = lies.0;
       take = λ u from below. (takes (u ∷ group) (from, below, first_within group groups_ (omega arith) (tail_some m groups_ many))).0;
       groups_fit = fit_groups.0;
     }

@@ -7,7 +7,7 @@ use Rattle.std.specs.List.{AllByRecursion, range_with_len, sum}
 use Rattle.zarrs_chunk_base.specs.Dimension.{Dimension, IsChain}
 use Rattle.zarrs_chunk_base.specs.Greatest.{greatest}
 use Rattle.zarrs_chunks.proofs.Chains.{at_most_start, earlier_has, in_chain, no_later}
-use Rattle.zarrs_chunk_plan.specs.seen.Sources.{TakesSome, met, taken, taken_from}
+use Rattle.zarrs_chunk_plan.specs.seen.Sources.{RangeTakes, TakesSome, met, taken, taken_from}
 use Rattle.zarrs_chunk_plan.proofs.Products.{greatest_from, greatest_of}
 use Rattle.std.proofs.lemmas.List.{length-append}
 use Rattle.std.proofs.lemmas.List.Elements.{Contains-append_left, Contains-append_right}
@@ -67,12 +67,8 @@ module _ (d : Dimension) (chain : IsChain d) (at size low high : ℕ) (over : Ar
         let (starts, _) = in_chain d chain (t * k) high begins over.high.chunk in
         (has, omega (arith, ends, starts, over.low.below, over.high.from, over.some, (grouped_chain d k chain some).not_empty t has))
 
-    pub taking : AreTaking k at size low high (low / k) (high / k - low / k + 1) d
-    taking = record {
-      over = over;
-      take = λ t from below. takes t from (omega (arith, groups_in_order, below));
-      groups_fit = omega (arith, groups_in_order, div-le_self high k, chunk_small);
-    }
+    pub taking : RangeTakes (grouped d k) at size (low / k) (high / k - low / k + 1)
+    taking t from below = takes t from (omega (arith, groups_in_order, below))
 
     -- a group takes no less than each of its chunks
     pub takes_more : (c : ℕ) → low ≤ c → c ≤ high → taken (grouped d 1) at size c ≤ taken (grouped d k) at size (c / k)
@@ -142,9 +138,9 @@ module _ (side : Side) (chain : IsChain side.target) (over : AreOver side.target
       (here.start ∙ sym there.start) (omega (arith, here.start, here.end, there.start, there.end)))
 
 -- the longest of some groups takes some
-pub longest_takes : (side : Side) (k : ℕ) → AreTaking k side.at side.size side.low side.high (side.low / k) (groups_met side k) side.target → 0 < largest_by side k
+pub longest_takes : (side : Side) (k : ℕ) → RangeTakes (grouped side.target k) side.at side.size (side.low / k) (groups_met side k) → 0 < largest_by side k
 longest_takes side k taking =
-    let (_, some) = taking.take (side.low / k) (omega arith) (omega arith) in
+    let (_, some) = taking (side.low / k) (omega arith) (omega arith) in
     let here : side.low / k + 0 ≡ side.low / k = omega arith in
     let is = greatest_is (of_group indices side.source (grouped side.target k) side.first side.at side.size) (side.low / k) (groups_met side k) 0 (omega arith) in
     omega (arith, some, is, ap (taken (grouped side.target k) side.at side.size) here)
@@ -152,11 +148,17 @@ longest_takes side k taking =
 -- ---- what is found of groups
 
 -- the numbers of groups are those of so many chunks
-pub found_taking : (d : Dimension) (k at size low high group end before groups : ℕ) → IsChain d → 0 < k → AreOver d at size low high → group ≡ low / k → end ≡ high / k
-    → before ≡ end - group → groups ≡ min (before + 1) greatest → AreTaking k at size low high group groups d
-found_taking d k at size low high group end before groups chain some over group_is end_is before_is groups_is =
+pub found_taking : (d : Dimension) (k at size low high group end before groups : ℕ) → IsChain d → 0 < k → AreOver d at size low high
+    → at + size ≤ d.array_size → group ≡ low / k → end ≡ high / k → before ≡ end - group → groups ≡ min (before + 1) greatest
+    → AreTaking k at size low high group groups d
+found_taking d k at size low high group end before groups chain some over within group_is end_is before_is groups_is =
     let many : groups ≡ high / k - low / k + 1 = omega (arith, group_is, end_is, before_is, groups_is, div-le_self high k, chunk_small d chain at size low high over) in
-    rw (group_is, many) (taking d chain at size low high over k some)
+    rw (group_is, many) (record {
+      over = over;
+      within = within;
+      take = taking d chain at size low high over k some;
+      groups_fit = omega (arith, groups_in_order d chain at size low high over k some, div-le_self high k, chunk_small d chain at size low high over);
+    })
 
 pub found_size : (side : Side) (group groups : ℕ) (s : Size) (sums : Sums) → IsChain side.target → AreOver side.target side.at side.size side.low side.high
     → group ≡ side.low / each_of s → groups ≡ min (side.high / each_of s - side.low / each_of s + 1) greatest

@@ -97,7 +97,7 @@ module _ (side : Side) (is : IsSide side) (chain : IsChain side.source) (within 
   read = counted met
 
   pub takes_at : (j : ℕ) → j < groups_met side k → TakesSome g side.at side.size (t j)
-  takes_at j less = (taking side.target is.chain side.at side.size side.low side.high is.over k some).take (t j) (omega arith) (omega arith)
+  takes_at j less = taking side.target is.chain side.at side.size side.low side.high is.over k some (t j) (omega arith) (omega arith)
 
   -- where no group takes more than what is counted of it times a number, the range has no more indices than all that is counted times it
   module _ (count : Count) (part : ℕ) (each : (j : ℕ) → j < groups_met side k → longest j ≤ counted count j * part) where

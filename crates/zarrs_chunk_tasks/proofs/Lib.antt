@@ -1,3 +1,4 @@
+mod Buffers
 mod CheapestChoices
 mod ChosenStages
 mod ChosenTasks

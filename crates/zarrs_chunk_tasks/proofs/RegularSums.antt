@@ -190,7 +190,7 @@ module _ (d : Dimension) (k b long at size group groups first_chunk last_chunk :
       let (has, taken_some) = taking.take t low high in
       let i = taken_from g at t in
       let order = no_later g g_chain t (i / long) i i (omega arith) (record { chunk = has; from = omega arith; below = omega (arith, taken_some) })
-      (g_regular i (omega (arith, taken_some, taking.over.within)))
+      (g_regular i (omega (arith, taken_some, taking.within)))
       in
       let le = mul-le-mul_right long order in
       let below = div-mul-le_self i long in
@@ -202,7 +202,7 @@ module _ (d : Dimension) (k b long at size group groups first_chunk last_chunk :
   behind_first : at ≤ (group + 1) * long
   behind_first =
       let (_, taken_some) = taking.take group (omega arith) (omega (arith, three)) in
-      let end = ends g long g_chain some_long g_regular group (omega (arith, begins (group + 1) (omega arith) (omega (arith, three)), taking.over.within)) in
+      let end = ends g long g_chain some_long g_regular group (omega (arith, begins (group + 1) (omega arith) (omega (arith, three)), taking.within)) in
       omega (arith, taken_some, end)
 
   place : (j : ℕ) → (group + 1 + j) * long ≡ (group + 1) * long + j * long
@@ -212,7 +212,7 @@ module _ (d : Dimension) (k b long at size group groups first_chunk last_chunk :
   all_of : (j : ℕ) → j < many → (taken_from g at (group + 1 + j) ≡ (group + 1 + j) * long) × (taken g at size (group + 1 + j) ≡ long)
       × ((group + 1 + j + 1) * long ≤ min (g.end (group + 1 + j)) (at + size))
   all_of j less =
-      takes_all g long g_chain some_long g_regular at size (group + 1 + j) (omega (arith, place j, behind_first)) (omega (arith, up j less)) taking.over.within
+      takes_all g long g_chain some_long g_regular at size (group + 1 + j) (omega (arith, place j, behind_first)) (omega (arith, up j less)) taking.within
 
   ends_within : (j : ℕ) → j < many → ((group + 1) * long - at) + j * long + long < size
   ends_within j less = let next = next_group (group + 1 + j) long in omega (arith, up j less, next, place j, behind_first)

@@ -87,7 +87,8 @@ all_sides [] [] [] [] [] [] [] chains many some fit lies over = tt
 all_sides (s ∷ source) (t ∷ target) (f ∷ first) (a ∷ at) (n ∷ shape) (l ∷ low) (h ∷ high) chains many some fit lies over = (
   record {
     chain = chains.0;
-    over = record { some = head_some n shape some; fits = fit.0; within = lies.0; low = over.0.0; high = over.1.0 };
+    over = record { some = head_some n shape some; fits = fit.0; low = over.0.0; high = over.1.0 };
+    within = lies.0;
   },
   all_sides source target first at shape low high chains.1 (fewer_lists many)
       (tail_some n shape some) fit.1 lies.1 (over.0.1, over.1.1),

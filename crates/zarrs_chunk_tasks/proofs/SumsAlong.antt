@@ -134,6 +134,7 @@ pub some_take : (k at size first_chunk last_chunk group groups before many : ℕ
     → AreTaking k at size first_chunk last_chunk group groups d → before + many ≤ groups → AreTaking k at size first_chunk last_chunk (group + before) many d
 some_take k at size first_chunk last_chunk group groups before many d taking within = record {
   over = taking.over;
+  within = taking.within;
   take = λ chunk from below. taking.take chunk (omega arith) (omega (arith, within));
   groups_fit = omega (arith, taking.groups_fit, within);
 }

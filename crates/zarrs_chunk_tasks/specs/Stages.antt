@@ -74,13 +74,6 @@ module _ (source target : List Dimension) (region : Box) (at : List ℕ) where
   abbrev pub OfEachTried : (List Dimension → Type 0) → Type 0
   OfEachTried P = (shape : List ℕ) → IsTriedShape source target region at shape → (between : List Dimension) → AreEqualEdges between region.shape shape → P between
 
-  -- the stages are exact if the pieces are few, and the target's chunks up to the region's last one
-  pub record AreExactIfFew (found : CheapestStages) : Type 0 where
-    pub cover : Box
-    pub is_cover : Covers target (moved at region) cover
-    pub exact : AreFewPieces source target region at → AllByRecursion (λ n. n ≤ most_sizes) (ends cover.start cover.shape)
-        → product (ends cover.start cover.shape) ≤ most_choices → IsTrue found.is_exact
-
 -- `most` bounds the elements of a buffer and of a largest chunk together
 module _ (source target : List Dimension) (region : Box) (at : List ℕ) (most : ℕ) where
   -- all tasks of one stage that fit cost this or more, and all of two stages by a shape that is tried
@@ -104,6 +97,16 @@ module _ (source target : List Dimension) (region : Box) (at : List ℕ) (most :
     pub no_dearer : (each : List NonZeroU64) (tasks : List Task) → Fit source target region at most each tasks
         → OnesAreNoCheaper source target region at read_elements found.cost
     pub cheapest : IsTrue found.is_exact → StagesCostAtLeast read_elements found.cost
+
+  -- Few chunks are at most 2^16 along each dimension, and 2^24 together. If the target's chunks up to the region's last one are few, no tasks of one stage
+  -- that fit cost less. If the pieces are few, too, the stages are exact.
+  pub record AreExactIfFew (read_elements : ℕ) (found : CheapestStages) : Type 0 where
+    pub cover : Box
+    pub is_cover : Covers target (moved at region) cover
+    pub no_dearer : AllByRecursion (λ n. n ≤ most_sizes) (ends cover.start cover.shape) → product (ends cover.start cover.shape) ≤ most_choices
+        → CostAtLeast source target region at most read_elements found.cost
+    pub exact : AreFewPieces source target region at → AllByRecursion (λ n. n ≤ most_sizes) (ends cover.start cover.shape)
+        → product (ends cover.start cover.shape) ≤ most_choices → IsTrue found.is_exact
 
   -- what is found of a region that isn't empty: stages, or none, if none fit
   abbrev pub FindsStages : (read_elements : ℕ) → Option CheapestStages → Type 0

@@ -7,11 +7,12 @@ ghost use Rattle.zarrs_chunk_plan.specs.Region.{shifted};
 ghost use Rattle.zarrs_chunk_tasks.specs.Groups.{HoldsSomeOf, IsBuffer};
 ghost use Rattle.zarrs_chunk_tasks.specs.seen.Tasks.{AreGroups};
 
-use crate::group_numbers::{counts_to, first_chunks, groups_of, last_chunks, reaches};
+use crate::group_numbers::{counts_to, groups_of};
+use crate::groups_along::{GroupsAlong, range_of};
 use std::alloc::{AllocError, Global};
 use std::num::NonZeroU64;
 use zarrs_chunk_base::ArraySubset;
-use zarrs_chunk_parts::{made_box, shared_elements};
+use zarrs_chunk_parts::made_box;
 use zarrs_chunks::ChunkGridTraits;
 
 /// The groups that hold some of a box of elements, as a box of their numbers. `cover` is the cover of the box.
@@ -62,15 +63,33 @@ pub(crate) fn buffer_of<G: ChunkGridTraits>(
         elements.now group.now (shifted elements.now.start behind)) }
 {
     elements.is_a_box();
-    let Some(last) = cover.end_inc(alloc)? else {
-        // Never: some chunk of the group is one of the cover.
+    cover.is_a_box();
+    let dimensions = group.len();
+    if each.len() != dimensions
+        || elements.dimensionality() != dimensions
+        || cover.dimensionality() != dimensions
+    {
+        // Never: a group that holds an element has a number for each of its dimensions.
         return Err(AllocError);
-    };
-    let first = first_chunks(alloc, each, group, cover.start())?;
-    let last = last_chunks(alloc, each, group, &last)?;
-    let begins = shared_elements(alloc, grid, elements, &first)?.in_selection;
-    let ends = shared_elements(alloc, grid, elements, &last)?.in_selection;
-    let shape = reaches(alloc, begins.start(), ends.start(), ends.shape())?;
-    let start = Vec::from_slice(alloc, begins.start())?;
+    }
+    let mut start = Vec::with_capacity(alloc, dimensions)?;
+    let mut shape = Vec::with_capacity(alloc, dimensions)?;
+    for dimension in 0..dimensions {
+        let first = cover.start()[dimension];
+        let along = GroupsAlong {
+            grid,
+            dimension,
+            each: each[dimension],
+            at: elements.start()[dimension],
+            size: elements.shape()[dimension],
+            first,
+            last: first.saturating_add(cover.shape()[dimension].saturating_sub(1)),
+            group: group[dimension],
+            groups: 1,
+        };
+        let (before, size) = range_of(alloc, &along, group[dimension])?;
+        start.push(before)?;
+        shape.push(size)?;
+    }
     Ok(made_box(start, shape)?)
 }

@@ -219,17 +219,16 @@ fn sums_one_by_one<K: ChunkGridTraits, G: ChunkGridTraits>(
 ///
 /// # Errors
 /// Out of memory.
-fn range_of<K: ChunkGridTraits>(
+pub(crate) fn range_of<K: ChunkGridTraits>(
     alloc: Global,
     groups: &GroupsAlong<K>,
     group: u64,
 ) -> Result<(u64, u64), AllocError>
-    requires over { Along (λ d. AreOver d groups.now.at groups.now.size groups.now.first
-        groups.now.last) (K.dimensions groups.now.grid.now) groups.now.dimension }
-    requires takes { Along (λ d. TakesSome (grouped d (non_zero_u64_get groups.now.each))
-        groups.now.at groups.now.size group) (K.dimensions groups.now.grid.now)
-        groups.now.dimension }
-    ensures { IfOk result (λ range. Along (λ d. IsTaken d (non_zero_u64_get groups.now.each)
+    ensures { Along (λ d. AreOver d groups.now.at groups.now.size groups.now.first groups.now.last)
+        (K.dimensions groups.now.grid.now) groups.now.dimension
+        → Along (λ d. TakesSome (grouped d (non_zero_u64_get groups.now.each)) groups.now.at
+        groups.now.size group) (K.dimensions groups.now.grid.now) groups.now.dimension
+        → IfOk result (λ range. Along (λ d. IsTaken d (non_zero_u64_get groups.now.each)
         groups.now.at groups.now.size group range) (K.dimensions groups.now.grid.now)
         groups.now.dimension) }
 {

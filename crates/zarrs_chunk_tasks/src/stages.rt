@@ -58,7 +58,8 @@ pub fn cheapest_stages<G: ChunkGridTraits, H: ChunkGridTraits>(
     ensures stages { (¬ IsEmptyBox region.now) → IfOk result (FindsStages (G.dimensions source.now)
         (H.dimensions target.now) region.now at.now max_elements read_elements) }
     ensures exact { (¬ IsEmptyBox region.now) → IfOk result (λ found. IfSome found
-        (AreExactIfFew (G.dimensions source.now) (H.dimensions target.now) region.now at.now)) }
+        (AreExactIfFew (G.dimensions source.now) (H.dimensions target.now) region.now at.now
+        max_elements read_elements)) }
     ensures empty { IsEmptyBox region.now → IfOk result (λ found. MatchOption found ⊥
         (IsOfEmptyRegion (G.dimensions source.now))) }
     ensures lies { IfOk result (λ _. CanBeMoved (array_sizes (G.dimensions source.now))

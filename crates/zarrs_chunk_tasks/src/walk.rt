@@ -37,7 +37,7 @@ impl<'a, G: ChunkGridTraits> Tasks<'a, G> {
     ghost use Rattle.zarrs_chunks.specs.Subsets.{IsCover};
     ghost use Rattle.zarrs_chunk_tasks.specs.Groups.{HoldsSomeOf};
     ghost use Rattle.zarrs_chunk_tasks.specs.Tasks.{IsTask};
-    ghost use Rattle.zarrs_chunk_tasks.specs.seen.Tasks.{ArePlanned, CanGive, IsAboutTasks, all_groups, groups_to_come};
+    ghost use Rattle.zarrs_chunk_tasks.specs.seen.Tasks.{ArePlanned, CanGive, IsSameCopy, all_groups, groups_to_come};
 
     /// The tasks of a copy of a box of elements that lies in the array of a grid.
     ///
@@ -88,8 +88,7 @@ impl<'a, G: ChunkGridTraits> Tasks<'a, G> {
             ≡ counted (before_share share.now.number share.now.of (length (all_groups self.old)))) }
         ensures unchanged { OnErr result (groups_to_come self.new ≡ groups_to_come self.old) }
         ensures all { all_groups self.new ≡ all_groups self.old }
-        ensures about { IsAboutTasks self.old.grid.now (map non_zero_u64_get self.old.each.now)
-            self.old.elements self.old.first.items self.old.at.items self.new }
+        ensures about { IsSameCopy self.old self.new }
         ensures can { CanGive G.dimensions self.old → CanGive G.dimensions self.new }
     {
         self.groups.share(share)
@@ -104,8 +103,7 @@ impl<'a, G: ChunkGridTraits> Tasks<'a, G> {
         ensures left { OnOk result (groups_to_come self.new ≡ drop first (all_groups self.old)) }
         ensures unchanged { OnErr result (groups_to_come self.new ≡ groups_to_come self.old) }
         ensures all { all_groups self.new ≡ all_groups self.old }
-        ensures about { IsAboutTasks self.old.grid.now (map non_zero_u64_get self.old.each.now)
-            self.old.elements self.old.first.items self.old.at.items self.new }
+        ensures about { IsSameCopy self.old self.new }
         ensures can { CanGive G.dimensions self.old → CanGive G.dimensions self.new }
     {
         self.groups.skip_to(first)

@@ -104,7 +104,7 @@ whole_still input fault (several_lines _ _ same) = ap moves same
 pub stages_still : (choice : TaskChoice) (source target : Array) (region : Box) (at : List ℕ) → Still (λ fault. stages_in choice source target region at (Err fault))
 stages_still (given order each) source target region at fault none = absurd none
 stages_still (cheapest most read asked) source target region at fault (inl (same, _)) = ap moves same
-stages_still (cheapest most read asked) source target region at fault (inr (inl (same, _))) = ap moves same
+stages_still (cheapest most read asked) source target region at fault (inr (inl (_, same, _))) = ap moves same
 stages_still (cheapest most read asked) source target region at fault (inr (inr (told, _, same))) = ap moves same ∙ of_region_still told
 
 pub stage_still : (stage : Stage) → Still (IsStageFault stage)
@@ -112,7 +112,7 @@ stage_still stage fault (told, _, same) = ap moves same ∙ of_tasks_still told
 
 pub fault_of_some_still : (stages : List Stage) → Still (IsFaultOfSome stages)
 fault_of_some_still stages fault (stage, _, inl is) = stage_still stage fault is
-fault_of_some_still stages fault (stage, _, inr (same, _)) = ap moves same
+fault_of_some_still stages fault (stage, _, inr (_, same, _)) = ap moves same
 
 pub asked_still : (asked : Option ℕ) (stages : List Stage) → Still (λ fault. asked_in asked stages (Err fault))
 asked_still None stages fault (_, same) = ap moves same

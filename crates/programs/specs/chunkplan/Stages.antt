@@ -97,7 +97,7 @@ IsIntermediate shape chunk between = (between.1 ≡ chunk) × (grid_kind regular
 pub record AreCheapest (source target : List Dimension) (region : Box) (at : List ℕ) (most read : ℕ) (found : CheapestStages) : Type 0 where
   pub lies : CanBeMoved (array_sizes source) (array_sizes target) region at
   pub some : (¬ IsEmptyBox region) → FindsStages source target region at most read (Some found)
-  pub exact : (¬ IsEmptyBox region) → AreExactIfFew source target region at found
+  pub exact : (¬ IsEmptyBox region) → AreExactIfFew source target region at most read found
   pub none : IsEmptyBox region → IsOfEmptyRegion source found
 
 -- no stages fit
@@ -123,7 +123,8 @@ stages_in (cheapest most read asked) source target region at (Ok stages) =
     ≡ (Some found.is_exact, staged Target source target region at between (map (λ tasks. map non_zero_u64_get tasks.task_chunks.items) found.tasks.items)))
 stages_in (cheapest most read asked) source target region at (Err fault) =
     ((fault ≡ NoTasksFit) × NoneFits source.0.dimensions target.0.dimensions region at most read)
-    ⊎ ((fault ≡ TooManyToChoose) × HaveMany most_to_choose source.0.dimensions target.0.dimensions region (moved at region))
+    ⊎ (CanBeMoved (array_sizes source.0.dimensions) (array_sizes target.0.dimensions) region at × (fault ≡ TooManyToChoose)
+    × HaveMany most_to_choose source.0.dimensions target.0.dimensions region (moved at region))
     ⊎ ((first : RegionError) × IsRegionFault (array_sizes source.0.dimensions) (array_sizes target.0.dimensions) region at first × (fault ≡ of_region first))
 
 -- ---- what is asked for
@@ -140,10 +141,10 @@ asked_in None stages (Err fault) = (length stages ≢ 1) × (fault ≡ SeveralSt
 asked_in (Some number) stages (Ok stage) = slice_get stages (pred number) ≡ Some stage
 asked_in (Some number) stages (Err fault) = (length stages < number) × (fault ≡ NoSuchStage)
 
--- why the tasks of a stage aren't counted: it has none, or there are too many chunks
+-- The first reason why the tasks of a stage aren't counted: it has none; or there are too many chunks.
 abbrev pub IsCountFault : Stage → RunFault → Type 0
 IsCountFault stage fault = IsStageFault stage fault
-    ⊎ ((fault ≡ TooManyToCount)
+    ⊎ (HasStageTasks stage × (fault ≡ TooManyToCount)
     × HaveMany most_to_count (source_dimensions stage) (target_dimensions stage) stage.region (moved stage.at stage.region))
 
 -- so of one of the stages

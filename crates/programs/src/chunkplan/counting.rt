@@ -13,6 +13,7 @@ use crate::chunkplan::line::write_list;
 use crate::chunkplan::product::{count_text, product_text};
 use crate::chunkplan::route::Stage;
 use crate::chunkplan::stages::numbers_of;
+use crate::chunkplan::task_lines::tasks_of;
 use json::Writer;
 use std::alloc::{AllocError, Global};
 use zarrs_chunk_plan::ReadCounts;
@@ -121,11 +122,12 @@ fn append_stage(alloc: Global, line: &mut Vec<u8>, stage: &Stage<'_>) -> Result<
 /// Counts the tasks of a stage.
 ///
 /// # Errors
-/// The stage has no tasks; there are too many chunks to count them; or out of memory.
+/// The first that applies: the stage has no tasks; there are too many chunks to count them. Or out of memory.
 fn counts_of_stage(alloc: Global, stage: &Stage<'_>) -> Result<Vec<CountsAlong>, RunFault>
     ensures { MatchResult result (λ counts. AreStageCounts (stage_of stage.now) counts.items)
         (λ fault. (fault ≡ Memory) ⊎ IsCountFault (stage_of stage.now) fault) }
 {
+    tasks_of(alloc, stage)?;
     let (source, target) = (&stage.source.grid, &stage.target.grid);
     let at = stage.at.as_slice();
     let can = can_count(alloc, source, target, &stage.region, at)?;

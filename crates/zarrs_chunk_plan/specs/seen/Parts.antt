@@ -34,6 +34,10 @@ module _ {G E : Type 0} where
     pub same_encoding : walk.encoding.now ≡ encoding
     pub same_subset : walk.array_subset ≡ subset
 
+  -- two walks are over the same
+  abbrev pub IsSameRead : (before after : Parts G E) → Type 0
+  IsSameRead before after = IsAbout before.grid.now before.encoding.now before.array_subset after
+
   -- the walk has to give the plan of reading a box of elements
   pub record IsPlanned (dimensions : G → List Dimension) (grid : G) (encoding : E) (subset : Box) (walk : Parts G E) : Type 0 where
     pub about : IsAbout grid encoding subset walk
@@ -80,6 +84,6 @@ pub record GivesPart {G E : Type 0} (dimensions : G → List Dimension) (is_key 
   pub gives : Gives offsets_to_come chunks_to_come (λ part. part.chunk.items) (λ offsets. offsets ≢ []) before given after
   pub part : MeetSubset dimensions before
       → IfPart (λ part. IsPart (dimensions before.grid.now) (is_key before.encoding.now) before.array_subset part.chunk.items part) given
-  pub about : IsAbout before.grid.now before.encoding.now before.array_subset after
+  pub about : IsSameRead before after
   pub meet : MeetSubset dimensions before → MeetSubset dimensions after
   pub all : all_chunks after ≡ all_chunks before

@@ -25,7 +25,7 @@ impl<'a, G: ChunkGridTraits, E: ChunkKeyEncodingTraits> Parts<'a, G, E> {
     ghost use Rattle.zarrs_chunks.specs.Walks.{chunks_in};
     ghost use Rattle.zarrs_chunk_plan.specs.Counted.{counted};
     ghost use Rattle.zarrs_chunk_plan.specs.Shares.{before_share, share_of};
-    ghost use Rattle.zarrs_chunk_plan.specs.seen.Parts.{IsAbout, all_chunks, chunks_to_come, offsets_to_come};
+    ghost use Rattle.zarrs_chunk_plan.specs.seen.Parts.{IsAbout, IsSameRead, all_chunks, chunks_to_come, offsets_to_come};
 
     /// A walk over the parts that the chunks in a box of chunk numbers hold.
     ///
@@ -69,7 +69,7 @@ impl<'a, G: ChunkGridTraits, E: ChunkKeyEncodingTraits> Parts<'a, G, E> {
             ≡ counted (before_share share.now.number share.now.of (length (all_chunks self.old)))) }
         ensures unchanged { OnErr result (chunks_to_come self.new ≡ chunks_to_come self.old) }
         ensures all { all_chunks self.new ≡ all_chunks self.old }
-        ensures about { IsAbout self.old.grid.now self.old.encoding.now self.old.array_subset self.new }
+        ensures about { IsSameRead self.old self.new }
     {
         self.chunks.share(share)
     }
@@ -83,7 +83,7 @@ impl<'a, G: ChunkGridTraits, E: ChunkKeyEncodingTraits> Parts<'a, G, E> {
         ensures left { OnOk result (chunks_to_come self.new ≡ drop first (all_chunks self.old)) }
         ensures unchanged { OnErr result (chunks_to_come self.new ≡ chunks_to_come self.old) }
         ensures all { all_chunks self.new ≡ all_chunks self.old }
-        ensures about { IsAbout self.old.grid.now self.old.encoding.now self.old.array_subset self.new }
+        ensures about { IsSameRead self.old self.new }
     {
         self.chunks.skip_to(first)
     }
@@ -106,7 +106,7 @@ impl<'a, G: ChunkGridTraits, E: ChunkKeyEncodingTraits> Parts<'a, G, E> {
     pub(crate) fn end(&mut self)
         ensures all { all_chunks self.new ≡ all_chunks self.old }
         ensures none { (chunks_to_come self.new ≡ []) × (offsets_to_come self.new ≡ []) }
-        ensures about { IsAbout self.old.grid.now self.old.encoding.now self.old.array_subset self.new }
+        ensures about { IsSameRead self.old self.new }
     {
         self.chunks.end();
     }

@@ -1,5 +1,5 @@
 //! The walk over some of the chunks in a box of chunk numbers.
-ghost use Rattle.std.specs.Prelude.{◌≡◌, ◌↔◌, ◌⊎◌, ◌+◌, ◌<◌, IfOk, IsTrue, drop, false, length};
+ghost use Rattle.std.specs.Prelude.{◌*◌, ◌/◌, ◌%◌, ◌≡◌, ◌↔◌, ◌⊎◌, ◌+◌, ◌<◌, IfOk, IsTrue, drop, false, length};
 ghost use Rattle.std.specs.List.{Contains};
 ghost use Rattle.std.specs.Option.{ForSome};
 ghost use Rattle.zarrs_chunk_axes.specs.InBounds.{AreBelow};
@@ -271,11 +271,24 @@ fn list_before(
     ensures { IfOk result (λ first. first.items ≡ digits shape.now number of) }
 {
     let mut first = ArrayIndicesTinyVec::with_capacity(alloc, shape.len())?;
-    let mut rest = number as u128;
+    let mut rest = number;
     for size in shape {
-        let lists = rest * *size as u128;
-        first.push((lists / of as u128) as u64)?;
-        rest = lists % of as u128;
+        let (next, left) = next_of_list(rest, *size, of);
+        first.push(next)?;
+        rest = left;
     }
     Ok(first)
+}
+
+/// The next number of that list, and how many parts of `of` are left behind it.
+fn next_of_list(rest: u64, size: u64, of: u64) -> (u64, u64)
+    requires { rest < of }
+    ensures next { result.0 ≡ rest * size / of }
+    ensures left { result.1 ≡ rest * size % of }
+{
+    if rest == 0 {
+        return (0, 0);
+    }
+    let lists = rest as u128 * size as u128;
+    ((lists / of as u128) as u64, (lists % of as u128) as u64)
 }

@@ -58,13 +58,13 @@ pub record AreMetAlong (d : Dimension) (first size : ℕ) (found : Met) : Type 0
 pub record AreOver (d : Dimension) (at size first last : ℕ) : Type 0 where
   pub some : 0 < size
   pub fits : at + size ≤ greatest
-  pub within : at + size ≤ d.array_size
   pub low : Holds d first at
   pub high : Holds d last (at + (size - 1))
 
--- and each of these groups of k chunks takes some of it
+-- The range lies in the array, and each of these groups of k chunks takes some of it.
 pub record AreTaking (k at size first last group groups : ℕ) (d : Dimension) : Type 0 where
   pub over : AreOver d at size first last
+  pub within : at + size ≤ d.array_size
   pub take : RangeTakes (grouped d k) at size group groups
   pub groups_fit : group + groups ≤ greatest
 

@@ -28,6 +28,7 @@ pub record Side : Type 0 where
 pub record IsSide (side : Side) : Type 0 where
   pub chain : IsChain side.target
   pub over : AreOver side.target side.at side.size side.low side.high
+  pub within : side.at + side.size ≤ side.target.array_size
 
 -- the dimensions of a copy
 abbrev pub sides : (source target : List Dimension) → (first at shape low high : List ℕ) → List Side

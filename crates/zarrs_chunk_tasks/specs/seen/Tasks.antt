@@ -40,6 +40,11 @@ module _ {G : Type 0} where
     pub same_first : walk.first.items ≡ first
     pub same_at : walk.at.items ≡ at
 
+  -- two walks are over the same
+  abbrev pub IsSameCopy : (before after : Tasks G) → Type 0
+  IsSameCopy before after =
+      IsAboutTasks before.grid.now (map non_zero_u64_get before.each.now) before.elements before.first.items before.at.items after
+
   -- the walk knows the cover of the elements, and each group of all tasks holds some of them, so each to come does
   pub record CanGive (dimensions : G → List Dimension) (walk : Tasks G) : Type 0 where
     pub cover : (¬ IsEmptyBox walk.elements) → IsCover (dimensions walk.grid.now) walk.elements walk.cover
@@ -79,6 +84,6 @@ pub record GivesTask {G : Type 0} (dimensions : G → List Dimension) (before : 
   pub task : CanGive dimensions before
       → IfTask (λ task. IsTask (dimensions before.grid.now) (map non_zero_u64_get before.each.now) before.elements before.first.items before.at.items
       task.group.items task) given
-  pub about : IsAboutTasks before.grid.now (map non_zero_u64_get before.each.now) before.elements before.first.items before.at.items after
+  pub about : IsSameCopy before after
   pub can : CanGive dimensions before → CanGive dimensions after
   pub all : all_groups after ≡ all_groups before

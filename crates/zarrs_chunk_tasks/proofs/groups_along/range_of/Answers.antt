@@ -7,13 +7,13 @@ use Rattle.zarrs_chunk_tasks.proofs.SumsAlong.{one_of, taken_is}
 use Rattle.zarrs_chunk_tasks.proofs.groups_along.range_of.Goals as goal
 
 pub returns : goal.returns
-returns g c =
+returns g c = λ is_over takes_some.
     let groups = c.args.groups.now in
     let k = non_zero_u64_get groups.each in
     let t = c.args.group in
-    let it = one_of _ _ groups.dimension (g.met.K.ChunkGridTraits.chained groups.grid.now) c.requires.over in
-    let over = it.at _ c.requires.over in
-    let takes = it.at _ c.requires.takes in
+    let it = one_of _ _ groups.dimension (g.met.K.ChunkGridTraits.chained groups.grid.now) is_over in
+    let over = it.at _ is_over in
+    let takes = it.at _ takes_some in
     let is = reaching it.d k groups.at groups.size groups.first groups.last t it.chain over.some over.low over.high takes in
     let fits = over.fits in
     let high = over.high in

@@ -11,7 +11,7 @@ sums_along-requires-clause-groups g c =
     let it = one_of _ _ range.dimension (g.met.K.ChunkGridTraits.chained range.grid.now) c.requires.range in
     it.back _
     (found_taking it.d (non_zero_u64_get c.args.each) range.at range.size range.first range.last _ _ _ _ it.chain c.args.each.ok (it.at _ c.requires.range).over
-    c.div-group.ensures c.div.ensures c.saturating_sub.ensures c.saturating_add.ensures)
+    (it.at _ c.requires.range).within c.div-group.ensures c.div.ensures c.saturating_sub.ensures c.saturating_add.ensures)
 
 pub returns-clause-size : goal.returns-clause-size
 returns-clause-size g c =

@@ -45,6 +45,6 @@ returns-clause-exact g c = λ some.
     exact_if_few (g.G.ChunkGridTraits.dimensions c.args.source.now) (g.H.ChunkGridTraits.dimensions c.args.target.now) c.args.region.now c.args.at.now
     c.args.max_elements c.args.read_elements c.is_a_box.ensures (c.in_ok-moved.ensures {u = tt}).is_box some
     (g.met.H.ChunkGridTraits.chained c.args.target.now) (c.in_ok-moved.ensures {u = tt}).lies.in_target tried.rows.items tried.are_all compared c.in_ok-one.one
-    ((c.in_ok-one.ensures {u = tt}).exact some) (rw moved at (c.in_ok-tried.ensures {u = tt}).tried) (rw moved at (c.in_ok-tried.ensures {u = tt}).are_all)
+    ((c.in_ok-one.ensures {u = tt}).choice some) ((c.in_ok-one.ensures {u = tt}).exact some) (rw moved at (c.in_ok-tried.ensures {u = tt}).tried) (rw moved at (c.in_ok-tried.ensures {u = tt}).are_all)
     (rw (c.deref.ensures.value, moved) at (c.in_ok-compared.ensures {u = tt}).exact) c.if-tried.is_exact c.in_ok-cheaper_of.field-0 exact
     (c.in_ok-cheaper_of.ensures {u = tt})

@@ -10,7 +10,8 @@ use Rattle.programs.proofs.chunkplan.RouteLists.{route_lengths}
 use Rattle.programs.proofs.chunkplan.stages.cheapest_route.Goals as goal
 
 pub returns-then-not-can : goal.returns-then-not-can
-returns-then-not-can c = inr (inr (inl (refl, rw c.in_ok-moved.ensures.value at (c.in_ok-can.ensures c.if-not-can.true))))
+returns-then-not-can c =
+    inr (inr (inl (c.in_ok-moved.ensures.lies, refl, rw c.in_ok-moved.ensures.value at (c.in_ok-can.ensures c.if-not-can.true))))
 
 pub invariant_of-result : goal.invariant_of-result
 invariant_of-result c =
@@ -42,7 +43,7 @@ returns c =
     let target = dimensions_in c.args.target.now.grid in
     let finds : (¬ IsEmptyBox region) → FindsStages source target region at c.args.most c.args.read (Some stages) =
     rw c.in-Some.is at c.in_ok-found.ensures.stages in
-    let exact : (¬ IsEmptyBox region) → AreExactIfFew source target region at stages = rw c.in-Some.is at c.in_ok-found.ensures.exact in
+    let exact : (¬ IsEmptyBox region) → AreExactIfFew source target region at c.args.most c.args.read stages = rw c.in-Some.is at c.in_ok-found.ensures.exact in
     let of_none : IsEmptyBox region → IsOfEmptyRegion source stages = rw c.in-Some.is at c.in_ok-found.ensures.empty in (
       stages,
       record { lies = c.in_ok-found.ensures.lies; some = finds; exact = exact; none = of_none },

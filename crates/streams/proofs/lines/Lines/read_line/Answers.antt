@@ -1,6 +1,7 @@
-use Rattle.std.proofs.Common.{◌≡◌, ◌∙◌, ◌++◌, ap, ap₂, append_assoc, arith, length, length-append, sym, ◌∷◌, [], Some}
+use Rattle.std.proofs.Common.{◌≡◌, ◌∙◌, ◌++◌, ap, ap₂, append-nil, append_assoc, arith, length, length-append, sym, ◌∷◌, [], Some}
 use Rattle.std.proofs.lemmas.Result.{err_from_is_err_and}
 use Rattle.streams.specs.Watched.{watched}
+use Rattle.streams.specs.OneLine.{line_feeds}
 use Rattle.streams.specs.seen.Lines.{left}
 use Rattle.streams.proofs.Known.{for_known}
 use Rattle.streams.proofs.LineBytes.{at_end, last_byte, no_more_bytes, one_more_byte}
@@ -77,3 +78,10 @@ returns-clause-end g c = λ _.
     let (before, is_left, part) = c.loop-byte.invariant.0 bytes is in
     let (none, now) = at_end before _ _ c.in_default.not-Some (c.in_ok-byte.ensures.next before is_left) in
     sym (no_more_bytes c.args.line.now.items c.loop-byte.line.items bytes (rw none at part)).1)
+
+pub returns-clause-unended : goal.returns-clause-unended
+returns-clause-unended g c = λ _.
+    for_known (left c.args.self.now (g.R.Read.remaining (watched c.args.reader.now))) _ (λ bytes is.
+    let (before, is_left, part) = c.loop-byte.invariant.0 bytes is in
+    let (none, now) = at_end before _ _ c.in_default.not-Some (c.in_ok-byte.ensures.next before is_left) in
+    ap line_feeds (part.whole ∙ ap (λ xs. part.begun ++ xs) none ∙ append-nil part.begun) ∙ part.unended)
