@@ -11,11 +11,11 @@ ghost use Rattle.zarrs_chunk_base.specs.Greatest.{AllFit};
 ghost use Rattle.zarrs_chunk_base.specs.Dimension.{InEach, array_sizes, grid_sizes};
 ghost use Rattle.zarrs_chunk_base.specs.Refusal.{Answers, HasMemory, IsRefusedAnd, OrMemory, TellsLengths};
 ghost use Rattle.zarrs_chunk_axes.specs.InBounds.{AreBelow, AreInBounds, AreIndicesInBounds, IsIndexInBounds};
-ghost use Rattle.zarrs_chunk_axes.specs.LookUp.{AnswersShape, AnswersOrigin, AnswersChunk, AnswersHome, AnswersOverBox, AnswersPlace, AnswersRanges, AreOverBox};
+ghost use Rattle.zarrs_chunk_axes.specs.LookUp.{AnswersShape, AnswersShapeNumbers, AnswersOrigin, AnswersChunk, AnswersHome, AnswersOverBox, AnswersPlace, AnswersRanges, AreOverBox};
 ghost use Rattle.zarrs_chunk_axes.specs.lemmas.LookUpEach.{AreFound, LiesInNone, SomeMisses};
 
 use crate::axis::{Axis, AxisFrom};
-use look_up::{ChunkOf, EdgeOf, HomeOf, LookUp, OriginOf, PlaceOf, RangeOf};
+use look_up::{ChunkOf, EdgeOf, HomeOf, LookUp, OriginOf, PlaceOf, RangeOf, SizeOf};
 use std::alloc::{AllocError, Global};
 use zarrs_chunk_base::{
     ArrayIndices, ArrayShape, ArraySubset, ChunkShape, IncompatibleDimensionalityError, Refusal,
@@ -105,6 +105,20 @@ impl<A: Axis + Drop> AxisGrid<A> {
         ensures { AnswersShape (dimensions_of self.now) chunk.now result }
     {
         self.look_up::<EdgeOf>(alloc, chunk)
+    }
+
+    /// The same in plain numbers.
+    ///
+    /// # Errors
+    /// As of [`chunk_shape`](AxisGrid::chunk_shape).
+    pub fn chunk_sizes(
+        &self,
+        alloc: Global,
+        chunk: &[u64],
+    ) -> Result<Option<ArrayShape>, Refusal<IncompatibleDimensionalityError>>
+        ensures { AnswersShapeNumbers (dimensions_of self.now) chunk.now result }
+    {
+        self.look_up::<SizeOf>(alloc, chunk)
     }
 
     /// For each dimension where the chunk starts.

@@ -25,8 +25,8 @@ prepare_grid_call shape metadata numbers needed =
 abbrev pub IsUnread : End → Type 0
 IsUnread end = MatchResult end (λ _. ⊥) (λ fault. (fault ≡ Memory) ⊎ (fault ≡ NotPrepared))
 
--- A request of prepared numbers ends as it does of the grid whose they are. Numbers that are no mark with tables behind it are refused, or memory runs
--- out. Of tables that are no grid's nothing is said.
+-- A request of prepared numbers ends as it does of the grid whose they are. Numbers that are no mark and tables after it are refused, or memory runs
+-- out. Nothing is said of tables that are no grid's.
 pub record EndsForPrepared (numbers : List ℕ) (request : Request Grid) (end : End) : Type 0 where
   pub of_grid : EndsForEach (IsPreparedGrid numbers) request end
   pub of_none : ((tables : List Table) → ¬ AreTables numbers tables) → IsUnread end

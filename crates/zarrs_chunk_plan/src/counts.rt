@@ -10,13 +10,12 @@ use zarrs_chunk_base::{ArrayShape, ArraySubset, IncompatibleDimensionalityError,
 use zarrs_chunk_keys::ChunkKeyEncodingTraits;
 use zarrs_chunks::ChunkGridTraits;
 
-/// How much a read takes. Each count is the product of the numbers in its list. It may be larger than any integer type holds. How many numbers a list has isn't
-/// promised.
+/// How much a read takes. Each count is the product of the numbers in its list, one for each dimension. It may be larger than any integer type holds.
 #[derive(Debug, Drop)]
 pub struct ReadCounts {
-    /// How many chunks are read: the parts of the plan.
+    /// How many chunks are read: the parts of the plan. Along each dimension, how many chunks hold some of the box.
     pub chunks_read: ArrayShape,
-    /// How many elements are read.
+    /// How many elements are read. Along each dimension, how many the box has.
     pub elements_moved: ArrayShape,
 }
 

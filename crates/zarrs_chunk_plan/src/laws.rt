@@ -9,6 +9,7 @@
 //! | The parts' boxes tile the box: each place in it lies in exactly one, they reach nowhere else, and none is empty | [`the_parts_tile_the_box`] |
 //! | Shares of a plan are together the plan | [`shares_are_together_the_plan`] |
 //! | Each box that has a cover has a plan | [`there_is_a_plan`] |
+//! | A chunk is marked as stored if the plan writes it and its key was listed, and only then | [`a_chunk_is_marked_if_its_key_is_listed`] |
 //! | Byte ranges of the form that is answered have the bytes of the box's elements, and no other | [`byte_ranges_have_the_bytes_of_the_box`] |
 //! | Grids that one configuration makes of two array shapes share their chunks | [`grids_of_one_configuration_share_their_chunks`] |
 //! | What a walk that `changes` answers gives, one after another, is the plan of the resize | [`the_walk_gives_the_resize`] |
@@ -35,11 +36,14 @@ ghost use Rattle.zarrs_chunk_plan.specs.Resize.{AreChanged, AreChangedChunks, Ar
 ghost use Rattle.zarrs_chunk_plan.specs.declared.resize.changed.ChangedChunks.{ChangedChunks};
 ghost use Rattle.zarrs_chunk_plan.specs.declared.resize.plan.Change.TheVariants.{Create, Delete, Keep, Rewrite};
 ghost use Rattle.zarrs_chunk_plan.specs.Shares.{numbered_share};
+ghost use Rattle.zarrs_chunk_plan.specs.StoredChunks.{IsListed};
 ghost use Rattle.zarrs_chunk_plan.specs.Strided.{form_of, ranges_of};
 ghost use Rattle.zarrs_chunk_plan.specs.declared.bytes.ranges.ByteRanges.{ByteRanges as ByteRangesValue};
+ghost use Rattle.zarrs_chunk_plan.specs.declared.copy.stored_chunks.StoredChunks.{StoredChunks as StoredChunksValue};
 ghost use Rattle.zarrs_chunk_plan.specs.declared.bytes.ranges.MemoryOrder.{MemoryOrder as MemoryOrderValue};
 ghost use Rattle.zarrs_chunk_plan.specs.seen.Changes.{AreChangesToCome, CanChange, GivesChange, IsAboutResize, changes_to_come};
 ghost use Rattle.zarrs_chunk_plan.specs.seen.Parts.{ArePartsToCome, GivesPart, IsPlanned, MeetSubset};
+ghost use Rattle.zarrs_chunk_plan.specs.seen.StoredChunks.{Knows, has_mark};
 
 use crate::{Change, Changes, ChunkChange, Part, Parts, StoredArray};
 use zarrs_chunk_base::ArraySubset;
@@ -279,6 +283,16 @@ pub fn each_element_that_leaves_or_comes_changes_its_chunk<G: ChunkGridTraits, H
         → (¬ HasElementOf (G.dimensions before.now) chunk index) → (what : Change)
         → IsChanged (G.dimensions before.now) (H.dimensions after.now) chunk what
         → (what ≡ Rewrite) ⊎ (what ≡ Create) }
+{}
+
+/// A chunk is marked exactly if the plan writes it and one of the listed keys is its own. So [`has`](crate::StoredChunks::has) returns `true` of no other chunk.
+pub fn a_chunk_is_marked_if_its_key_is_listed<H: ChunkGridTraits, F: ChunkKeyEncodingTraits>(
+    target: &StoredArray<H, F>,
+)
+    ensures { (targets keys : List (List ℕ)) (stored : StoredChunksValue)
+        → Knows (H.dimensions target.now.grid) (F.is_key target.now.encoding) targets keys stored
+        → (chunk : List ℕ) → IsTrue (has_mark stored chunk)
+        ↔ (Contains targets chunk × IsListed (F.is_key target.now.encoding) keys chunk) }
 {}
 
 /// The byte ranges that are answered of a box, in their strided form, have the bytes of the box's elements and no other: they ascend, no byte is in

@@ -1,5 +1,5 @@
 -- The chosen tasks are the cheapest ones that fit.
-use Rattle.std.proofs.Common.{◌≡◌, ◌∙◌, ℕ, ◌+◌, ◌-◌, ◌*◌, ◌<◌, ◌≤◌, ◌↔◌, IsTrue, List, [], ◌∷◌, ◌++◌, None, Some, Option, Bool, IfSome, MatchOption, length, map, max, min, refl, reverse, ap, ap₂, subst, sym, arith}
+use Rattle.std.proofs.Common.{◌≡◌, ◌∙◌, ℕ, zero, suc, replicate, ◌+◌, ◌-◌, ◌*◌, ◌<◌, ◌≤◌, ◌↔◌, IsTrue, List, [], ◌∷◌, ◌++◌, None, Some, Option, Bool, IfSome, MatchOption, length, map, max, min, refl, reverse, ap, ap₂, subst, sym, arith}
 use Rattle.std.proofs.lemmas.List.{length-map, map-append, reverse-append, reverse-reverse}
 use Rattle.std.specs.Int.NonZero.{non_zero_u64_get}
 use Rattle.std.specs.List.{AllByRecursion, AllZip}
@@ -235,3 +235,8 @@ exact_if_few target region at chains is_moved some cover is (Some found) (Some c
   is_cover = covers_some target (moved at region) cover chains is_moved some is;
   exact = λ all_few up_to. subst IsTrue (sym is_exact) (few all_few up_to);
 }
+
+-- what holds of one holds of each of many of it
+pub all_of_replicate : {X : Type 0} (P : X → Type 0) (n : ℕ) (x : X) → P x → AllByRecursion P (replicate n x)
+all_of_replicate P zero x has = tt
+all_of_replicate P (suc n) x has = (has, all_of_replicate P n x has)

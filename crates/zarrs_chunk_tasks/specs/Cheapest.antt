@@ -95,8 +95,9 @@ pub record IsExactIfFew (target : List Dimension) (region : Box) (at : List ℕ)
   pub exact : AllByRecursion (λ n. n ≤ most_sizes) (ends cover.start cover.shape) → product (ends cover.start cover.shape) ≤ most_choices
       → IsTrue chosen.is_exact
 
--- the tasks of an empty region cost nothing
+-- the tasks of an empty region take one chunk each along each dimension, and cost nothing
 pub record IsOfNoTasks (source : List Dimension) (chosen : CheapestTasks) : Type 0 where
   pub long : length chosen.task_chunks.items ≡ length source
+  pub ones : AllByRecursion (λ one. non_zero_u64_get one ≡ 1) chosen.task_chunks.items
   pub cost : chosen.cost ≡ 0
   pub is_exact : IsTrue chosen.is_exact

@@ -10,6 +10,6 @@ use Rattle.zarrs_chunk_questions.proofs.PartsAhead.{keys_in}
 pub counted_parts : (array : StoredArray ChunkGrid ChunkKeyEncoding) (subset : Box) (counts : ReadCounts) → IsBox subset
     → length subset.start ≡ length (dimensions_of array) → AreCountsOf (dimensions_of array) (key_of array) subset counts
     → (parts : List Part) × IsReadPlan (dimensions_of array) (key_of array) subset parts × AreReadCounts subset parts counts
-counted_parts array subset counts is_box many ((cover, is_cover), are) =
-    let (parts, plan) = plan_over (dimensions_of array) (key_of array) (chained_in array.grid) (keys_in array.encoding) subset cover is_box is_cover in
-    (parts, record { lengths = many; plan = plan }, are parts plan)
+counted_parts array subset counts is_box many are =
+    let (parts, plan) = plan_over (dimensions_of array) (key_of array) (chained_in array.grid) (keys_in array.encoding) subset are.cover is_box are.is_cover in
+    (parts, record { lengths = many; plan = plan }, are.of_plan parts plan)

@@ -16,7 +16,7 @@ abbrev pub IsNextByte : (bytes : List ℕ) → Option ℕ → (left : Option (Li
 IsNextByte bytes (Some byte) left = (rest : List ℕ) × (bytes ≡ byte ∷ rest) × (left ≡ Some rest)
 IsNextByte bytes None left = (bytes ≡ []) × (left ≡ Some [])
 
--- Of what was left a beginning was appended to some bytes, and the reader has the others left.
+-- A beginning of what was left was appended to some bytes, and the reader has the rest left.
 abbrev pub HasBegun : (before bytes rest : List ℕ) → (remaining : Option (List ℕ)) → Type 0
 HasBegun before bytes rest remaining =
     (begun : List ℕ) × (behind : List ℕ) × (rest ≡ begun ++ behind) × (bytes ≡ before ++ begun) × (remaining ≡ Some behind)

@@ -106,6 +106,22 @@ impl LookUp for EdgeOf {
     }
 }
 
+/// The same as a plain number.
+pub(crate) struct SizeOf;
+
+impl LookUp for SizeOf {
+    type Found = u64;
+
+    ghost finds = { HasEdge };
+
+    ghost misses = { λ d chunk. ¬ IsTrue (d.has_chunk chunk) };
+
+    #[inline(always)]
+    fn look_up<A: Axis>(axis: &A, chunk: u64) -> Option<u64> {
+        Some(axis.edge_of(chunk)?.get())
+    }
+}
+
 /// Where a chunk starts, and how many elements long it is.
 pub(crate) struct RangeOf;
 

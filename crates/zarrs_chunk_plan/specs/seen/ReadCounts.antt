@@ -1,5 +1,5 @@
 -- The counts that are found of a read.
-use Rattle.std.specs.Prelude.{ℕ, List}
+use Rattle.std.specs.Prelude.{◌≡◌, ℕ, List}
 use Rattle.zarrs_chunk_base.specs.ArraySubset.{Box}
 use Rattle.zarrs_chunk_base.specs.Dimension.{Dimension}
 use Rattle.zarrs_chunk_plan.specs.Counts.{AreReadCounts}
@@ -7,6 +7,10 @@ use Rattle.zarrs_chunk_parts.specs.Plan.{Covers, IsPlan}
 use Rattle.zarrs_chunk_plan.specs.declared.counts.ReadCounts.{ReadCounts}
 use Rattle.zarrs_chunk_parts.specs.declared.part.Part.{Part}
 
--- the box has a cover, and these are the counts of its plan
-abbrev pub AreCountsOf : List Dimension → (List ℕ → List ℕ → Type 0) → Box → ReadCounts → Type 0
-AreCountsOf ds IsKey b counts = ((cover : Box) × Covers ds b cover) × ((parts : List Part) → IsPlan ds IsKey b parts → AreReadCounts b parts counts)
+-- The box has a cover. Along each dimension the counts are how many chunks the cover has, and how many elements the box has. They are the counts of the plan.
+pub record AreCountsOf (ds : List Dimension) (IsKey : List ℕ → List ℕ → Type 0) (b : Box) (counts : ReadCounts) : Type 0 where
+  pub cover : Box
+  pub is_cover : Covers ds b cover
+  pub chunks : counts.chunks_read.items ≡ cover.shape
+  pub elements : counts.elements_moved.items ≡ b.shape
+  pub of_plan : (parts : List Part) → IsPlan ds IsKey b parts → AreReadCounts b parts counts

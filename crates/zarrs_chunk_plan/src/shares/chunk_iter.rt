@@ -280,7 +280,7 @@ fn list_before(
     Ok(first)
 }
 
-/// The next number of that list, and how many parts of `of` are left behind it.
+/// The next number of that list, and how many parts of `of` are left after it.
 fn next_of_list(rest: u64, size: u64, of: u64) -> (u64, u64)
     requires { rest < of }
     ensures next { result.0 ≡ rest * size / of }

@@ -31,7 +31,7 @@ use serde_json::Value;
 use std::alloc::{AllocError, Global};
 use std::num::NonZeroU64;
 use zarrs_chunk_base::{
-    ArrayIndices, ArraySubset, ChunkEdgeLengths, ChunkShape, Configuration, ExtensionError,
+    ArrayIndices, ArrayShape, ArraySubset, ChunkEdgeLengths, ChunkShape, Configuration, ExtensionError,
     IncompatibleDimensionalityError, MetadataV3, PluginCreateError, Refusal,
 };
 
@@ -241,6 +241,14 @@ impl ChunkGridTraits for ChunkGrid {
         chunk_indices: &[u64],
     ) -> Result<Option<ChunkShape>, Refusal<IncompatibleDimensionalityError>> {
         inside!(self, grid => ChunkGridTraits::chunk_shape(grid, alloc, chunk_indices))
+    }
+
+    fn chunk_shape_u64(
+        &self,
+        alloc: Global,
+        chunk_indices: &[u64],
+    ) -> Result<Option<ArrayShape>, Refusal<IncompatibleDimensionalityError>> {
+        inside!(self, grid => ChunkGridTraits::chunk_shape_u64(grid, alloc, chunk_indices))
     }
 
     // As in the grids inside, the look-ups that a grid is asked most often are inlined.

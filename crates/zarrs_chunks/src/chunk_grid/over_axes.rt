@@ -121,6 +121,14 @@ impl<G: OverAxes> ChunkGridTraits for G {
         self.axes().chunk_shape(alloc, chunk_indices)
     }
 
+    fn chunk_shape_u64(
+        &self,
+        alloc: Global,
+        chunk_indices: &[u64],
+    ) -> Result<Option<ArrayShape>, Refusal<IncompatibleDimensionalityError>> {
+        self.axes().chunk_sizes(alloc, chunk_indices)
+    }
+
     // The look-ups that a grid is asked most often are inlined where the kind of grid is known.
     #[inline(always)]
     fn chunk_origin(

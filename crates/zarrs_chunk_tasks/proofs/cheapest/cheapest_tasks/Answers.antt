@@ -1,9 +1,10 @@
-use Rattle.std.proofs.Common.{◌∙◌, ap, arith, length, max, refl, sym}
+use Rattle.std.proofs.Common.{◌≡◌, ◌∙◌, ap, arith, length, max, refl, sym}
+use Rattle.std.specs.Int.NonZero.{non_zero_u64_get}
 use Rattle.std.proofs.lemmas.List.{length-map, length-replicate}
 use Rattle.zarrs_chunk_base.specs.Dimension.{Dimension, array_sizes}
 use Rattle.zarrs_chunk_plan.proofs.MovedBoxes.{within_starts}
 use Rattle.zarrs_chunk_tasks.specs.seen.Choices.{rows_of}
-use Rattle.zarrs_chunk_tasks.proofs.ChosenTasks.{choice_is, exact_if_few, fits_in_room}
+use Rattle.zarrs_chunk_tasks.proofs.ChosenTasks.{all_of_replicate, choice_is, exact_if_few, fits_in_room}
 use Rattle.zarrs_chunk_tasks.proofs.TaskLaws.{as_many_dimensions}
 use Rattle.zarrs_chunk_tasks.proofs.TriedSizes.{are_tried, some_rows}
 use Rattle.zarrs_chunk_tasks.proofs.cheapest.cheapest_tasks.Goals as goal
@@ -16,6 +17,9 @@ returns-in_default-clause-empty g c = λ empty. record {
       ∙ length-map (g.H.ChunkGridTraits.dimensions c.args.target.now) (λ (d : Dimension). d.array_size)
       ∙ sym (as_many_dimensions (g.G.ChunkGridTraits.dimensions c.args.source.now) (g.H.ChunkGridTraits.dimensions c.args.target.now) c.args.region.now c.args.at.now
       (array_sizes (g.G.ChunkGridTraits.dimensions c.args.source.now)) (record { lengths = refl; can = (c.in_ok-moved.ensures {u = tt}).lies }));
+  ones =
+      rw ((c.in_ok-vec.ensures {u = tt}).items_if_clones_equal (λ y same. same))
+      (all_of_replicate (λ one. non_zero_u64_get one ≡ 1) _ _ refl);
   cost = refl;
   is_exact = refl;
 }
