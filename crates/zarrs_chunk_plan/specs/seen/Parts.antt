@@ -28,6 +28,13 @@ module _ {G E : Type 0} where
   abbrev pub all_chunks : Parts G E → List (List ℕ)
   all_chunks walk = all_between walk.chunks
 
+  -- the grid and the encoding that the walk is over
+  abbrev pub grid_of : Parts G E → G
+  grid_of walk = walk.grid.now
+
+  abbrev pub encoding_of : Parts G E → E
+  encoding_of walk = walk.encoding.now
+
   -- the walk is over this grid, this encoding and this box of elements
   pub record IsAbout (grid : G) (encoding : E) (subset : Box) (walk : Parts G E) : Type 0 where
     pub same_grid : walk.grid.now ≡ grid

@@ -94,7 +94,7 @@ impl StoredChunks {
 
 impl<G: ChunkGridTraits, E: ChunkKeyEncodingTraits> Parts<'_, G, E> {
     ghost use Rattle.std.specs.Prelude.{[], IfSome};
-    ghost use Rattle.zarrs_chunk_plan.specs.seen.Parts.{all_chunks};
+    ghost use Rattle.zarrs_chunk_plan.specs.seen.Parts.{all_chunks, encoding_of, grid_of};
     ghost use Rattle.zarrs_chunk_plan.specs.seen.StoredChunks.{Knows};
 
     /// Returns marks for the chunks of all parts, wherever the walk is: no chunk is known to be stored. `None` if there are 536870912 chunks or more.
@@ -105,7 +105,7 @@ impl<G: ChunkGridTraits, E: ChunkKeyEncodingTraits> Parts<'_, G, E> {
     pub fn none_stored(&self, alloc: Global) -> Result<Option<StoredChunks>, AllocError>
         ensures none { IfOk result (λ found. MatchOption found
             (2 ^ 29 ≤ length (all_chunks self.now))
-            (Knows (G.dimensions self.now.grid.now) (E.is_key self.now.encoding.now)
+            (Knows (G.dimensions (grid_of self.now)) (E.is_key (encoding_of self.now))
             (all_chunks self.now) [])) }
         ensures few { IfOk result (λ found. IfSome found
             (λ _. length (all_chunks self.now) < 2 ^ 29)) }
