@@ -31,8 +31,8 @@ use serde_json::Value;
 use std::alloc::{AllocError, Global};
 use std::num::NonZeroU64;
 use zarrs_chunk_base::{
-    ArrayIndices, ArrayShape, ArraySubset, ChunkEdgeLengths, ChunkShape, Configuration, ExtensionError,
-    IncompatibleDimensionalityError, MetadataV3, PluginCreateError, Refusal,
+    ArrayIndices, ArrayShape, ArraySubset, ChunkEdgeLengths, ChunkShape, Configuration,
+    ExtensionError, IncompatibleDimensionalityError, MetadataV3, PluginCreateError, Refusal,
 };
 
 const REGULAR: &str = "regular";

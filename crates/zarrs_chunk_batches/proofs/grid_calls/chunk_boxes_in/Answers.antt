@@ -18,20 +18,20 @@ returns-in_err-grid-clause-ends c =
 pub returns-clause-ends : goal.returns-clause-ends
 returns-clause-ends c = record {
   of_grid = λ grid prepared.
-          let (are, fits) = c.in_ok-grid.ensures.read grid prepared in
-          let wrote = c.answer_all.new in
-          let same = c.answer_all.auto in
-          let chunks = c.args.chunks.now in
-          ends_for (chunk_boxes_request chunks wrote.first wrote.second wrote.found) grid c.answer_all.result
-          (rw (same.first, same.second, same.found) fits)
-          (MatchResult-from_both c.answer_all.result _ _
-          (on_ok_weaker c.answer_all.result
-          (of_grid grid c.in_ok-grid.grid are
-          (λ g n k origin sizes. Spans g.dimensions (list_at n chunks k) (list_at n chunks k) (record { start = origin; shape = sizes }))
-          (λ g n k origin sizes. Spans g.dimensions (list_at n chunks k) (list_at n chunks k) (record { start = origin; shape = sizes }))
-          (λ g n k. HasNoBox g.dimensions (list_at n chunks k)) (λ n. (n, n)) wrote.first wrote.second wrote.found (λ k less is. is))
-          c.answer_all.ensures.answered)
-          (IfErr-weaker c.answer_all.result _ _ (λ fault is. inl (⊎_elim (λ memory. memory) (λ none. none.0) is)) c.answer_all.ensures.refused));
+      let (are, fits) = c.in_ok-grid.ensures.read grid prepared in
+      let wrote = c.answer_all.new in
+      let same = c.answer_all.auto in
+      let chunks = c.args.chunks.now in
+      ends_for (chunk_boxes_request chunks wrote.first wrote.second wrote.found) grid c.answer_all.result
+      (rw (same.first, same.second, same.found) fits)
+      (MatchResult-from_both c.answer_all.result _ _
+      (on_ok_weaker c.answer_all.result
+      (of_grid grid c.in_ok-grid.grid are
+      (λ g n k origin sizes. Spans g.dimensions (list_at n chunks k) (list_at n chunks k) (record { start = origin; shape = sizes }))
+      (λ g n k origin sizes. Spans g.dimensions (list_at n chunks k) (list_at n chunks k) (record { start = origin; shape = sizes }))
+      (λ g n k. HasNoBox g.dimensions (list_at n chunks k)) (λ n. (n, n)) wrote.first wrote.second wrote.found (λ k less is. is))
+      c.answer_all.ensures.answered)
+      (IfErr-weaker c.answer_all.result _ _ (λ fault is. inl (⊎_elim (λ memory. memory) (λ none. none.0) is)) c.answer_all.ensures.refused));
   of_none = λ none. absurd (c.in_ok-grid.ensures.of_none none);
 }
 

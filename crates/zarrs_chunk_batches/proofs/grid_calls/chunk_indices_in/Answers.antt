@@ -20,19 +20,19 @@ returns-in_err-grid-clause-ends c =
 pub returns-clause-ends : goal.returns-clause-ends
 returns-clause-ends c = record {
   of_grid = λ grid prepared.
-          let (are, fits) = c.in_ok-grid.ensures.read grid prepared in
-          let wrote = c.answer_all.new in
-          let same = c.answer_all.auto in
-          let indices = c.args.indices.now in
-          ends_for (chunk_indices_request indices wrote.first wrote.found) grid c.answer_all.result
-          (rw (same.first, same.found) fits)
-          (MatchResult-from_both c.answer_all.result _ _
-          (on_ok_weaker c.answer_all.result
-          (of_grid grid c.in_ok-grid.grid are (λ g n k chunk place. IsHomeIn g.dimensions (list_at n indices k) chunk place)
-          (λ g n k chunk _. InBox g.dimensions chunk (list_at n indices k)) (λ g n k. HasNoHome g.dimensions (list_at n indices k)) (λ n. (n, 0))
-          wrote.first [] wrote.found (λ k less is. is.0))
-          c.answer_all.ensures.answered)
-          (IfErr-weaker c.answer_all.result _ _ (λ fault is. inl (⊎_elim (λ memory. memory) (λ none. none.0) is)) c.answer_all.ensures.refused));
+      let (are, fits) = c.in_ok-grid.ensures.read grid prepared in
+      let wrote = c.answer_all.new in
+      let same = c.answer_all.auto in
+      let indices = c.args.indices.now in
+      ends_for (chunk_indices_request indices wrote.first wrote.found) grid c.answer_all.result
+      (rw (same.first, same.found) fits)
+      (MatchResult-from_both c.answer_all.result _ _
+      (on_ok_weaker c.answer_all.result
+      (of_grid grid c.in_ok-grid.grid are (λ g n k chunk place. IsHomeIn g.dimensions (list_at n indices k) chunk place)
+      (λ g n k chunk _. InBox g.dimensions chunk (list_at n indices k)) (λ g n k. HasNoHome g.dimensions (list_at n indices k)) (λ n. (n, 0))
+      wrote.first [] wrote.found (λ k less is. is.0))
+      c.answer_all.ensures.answered)
+      (IfErr-weaker c.answer_all.result _ _ (λ fault is. inl (⊎_elim (λ memory. memory) (λ none. none.0) is)) c.answer_all.ensures.refused));
   of_none = λ none. absurd (c.in_ok-grid.ensures.of_none none);
 }
 

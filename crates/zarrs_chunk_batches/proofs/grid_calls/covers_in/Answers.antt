@@ -20,28 +20,28 @@ returns-in_err-grid-clause-ends c =
 pub returns-clause-ends : goal.returns-clause-ends
 returns-clause-ends c = record {
   of_grid = λ grid prepared.
-          let (are, fits) = c.in_ok-grid.ensures.read grid prepared in
-          let wrote = c.answer_all.new in
-          let same = c.answer_all.auto in
-          let starts = c.args.starts.now in
-          let shapes = c.args.shapes.now in
-          let width = width_is grid c.in_ok-grid.grid are in
-          ends_for (covers_request starts shapes wrote.first wrote.second wrote.found wrote.wrong) grid c.answer_all.result
-          (rw (same.first, same.second, same.found) fits)
-          (MatchResult-from_both c.answer_all.result _ _
-          (both c.answer_all.result _ _
-          (on_ok_weaker c.answer_all.result (subst (λ n. AreQuestions (length wrote.found) (λ k. IsBox (box_asked n starts shapes k))) width)
-          c.answer_all.ensures.asked)
-          (on_ok_weaker c.answer_all.result
-          (of_grid grid c.in_ok-grid.grid are
-          (λ g n k first counts. IsCoverOf g.dimensions (box_asked n starts shapes k) (record { start = first; shape = counts }))
-          (λ g n k first counts. IsCoverOf g.dimensions (box_asked n starts shapes k) (record { start = first; shape = counts }))
-          (λ g n k. HasNoCover g.dimensions (box_asked n starts shapes k)) (λ n. (n, n)) wrote.first wrote.second wrote.found (λ k less is. is))
-          c.answer_all.ensures.answered))
-          (subst
-          (λ n. IfErr c.answer_all.result (λ fault. (fault ≡ Memory)
-          ⊎ ((fault ≡ NotBox) × IsFirstWrong (length wrote.found) (λ k. IsBox (box_asked n starts shapes k)) wrote.wrong)))
-          width c.answer_all.ensures.refused));
+      let (are, fits) = c.in_ok-grid.ensures.read grid prepared in
+      let wrote = c.answer_all.new in
+      let same = c.answer_all.auto in
+      let starts = c.args.starts.now in
+      let shapes = c.args.shapes.now in
+      let width = width_is grid c.in_ok-grid.grid are in
+      ends_for (covers_request starts shapes wrote.first wrote.second wrote.found wrote.wrong) grid c.answer_all.result
+      (rw (same.first, same.second, same.found) fits)
+      (MatchResult-from_both c.answer_all.result _ _
+      (both c.answer_all.result _ _
+      (on_ok_weaker c.answer_all.result (subst (λ n. AreQuestions (length wrote.found) (λ k. IsBox (box_asked n starts shapes k))) width)
+      c.answer_all.ensures.asked)
+      (on_ok_weaker c.answer_all.result
+      (of_grid grid c.in_ok-grid.grid are
+      (λ g n k first counts. IsCoverOf g.dimensions (box_asked n starts shapes k) (record { start = first; shape = counts }))
+      (λ g n k first counts. IsCoverOf g.dimensions (box_asked n starts shapes k) (record { start = first; shape = counts }))
+      (λ g n k. HasNoCover g.dimensions (box_asked n starts shapes k)) (λ n. (n, n)) wrote.first wrote.second wrote.found (λ k less is. is))
+      c.answer_all.ensures.answered))
+      (subst
+      (λ n. IfErr c.answer_all.result (λ fault. (fault ≡ Memory)
+      ⊎ ((fault ≡ NotBox) × IsFirstWrong (length wrote.found) (λ k. IsBox (box_asked n starts shapes k)) wrote.wrong)))
+      width c.answer_all.ensures.refused));
   of_none = λ none. absurd (c.in_ok-grid.ensures.of_none none);
 }
 

@@ -22,22 +22,22 @@ returns-in_err-grid-clause-ends c =
 pub returns-clause-ends : goal.returns-clause-ends
 returns-clause-ends c = record {
   of_grid = λ grid prepared.
-          let (are, fits) = c.in_ok-grid.ensures.read grid prepared in
-          let wrote = c.answer_all.new in
-          let same = c.answer_all.auto in
-          let indices = c.args.indices.now in
-          let width = width_of c.in_ok-grid.grid in
-          let long : length wrote.second ≡ width * length wrote.found = rw (same.second, same.found) c.in_ok-grid.ensures.fits.1.1.0 in
-          ends_for (homes_request indices wrote.first wrote.second wrote.found) grid c.answer_all.result
-          (rw (same.first, same.second, same.found) fits)
-          (MatchResult-from_both c.answer_all.result _ _
-          (on_ok_weaker c.answer_all.result
-          (of_grid grid c.in_ok-grid.grid are (λ g n k chunk place. IsHomeIn g.dimensions (list_at n indices k) chunk place)
-          (λ g n k chunk place. InBox g.dimensions chunk (list_at n indices k) × IsPlace g.dimensions chunk (list_at n indices k) place)
-          (λ g n k. HasNoHome g.dimensions (list_at n indices k)) (λ n. (n, n)) wrote.first wrote.second wrote.found
-          (λ k less is. (is.0, is.1 (long_at width (length wrote.found) wrote.second k long less ∙ width_is grid c.in_ok-grid.grid are))))
-          c.answer_all.ensures.answered)
-          (IfErr-weaker c.answer_all.result _ _ (λ fault is. inl (⊎_elim (λ memory. memory) (λ none. none.0) is)) c.answer_all.ensures.refused));
+      let (are, fits) = c.in_ok-grid.ensures.read grid prepared in
+      let wrote = c.answer_all.new in
+      let same = c.answer_all.auto in
+      let indices = c.args.indices.now in
+      let width = width_of c.in_ok-grid.grid in
+      let long : length wrote.second ≡ width * length wrote.found = rw (same.second, same.found) c.in_ok-grid.ensures.fits.1.1.0 in
+      ends_for (homes_request indices wrote.first wrote.second wrote.found) grid c.answer_all.result
+      (rw (same.first, same.second, same.found) fits)
+      (MatchResult-from_both c.answer_all.result _ _
+      (on_ok_weaker c.answer_all.result
+      (of_grid grid c.in_ok-grid.grid are (λ g n k chunk place. IsHomeIn g.dimensions (list_at n indices k) chunk place)
+      (λ g n k chunk place. InBox g.dimensions chunk (list_at n indices k) × IsPlace g.dimensions chunk (list_at n indices k) place)
+      (λ g n k. HasNoHome g.dimensions (list_at n indices k)) (λ n. (n, n)) wrote.first wrote.second wrote.found
+      (λ k less is. (is.0, is.1 (long_at width (length wrote.found) wrote.second k long less ∙ width_is grid c.in_ok-grid.grid are))))
+      c.answer_all.ensures.answered)
+      (IfErr-weaker c.answer_all.result _ _ (λ fault is. inl (⊎_elim (λ memory. memory) (λ none. none.0) is)) c.answer_all.ensures.refused));
   of_none = λ none. absurd (c.in_ok-grid.ensures.of_none none);
 }
 

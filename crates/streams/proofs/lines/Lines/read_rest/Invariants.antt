@@ -1,4 +1,4 @@
-use Rattle.std.proofs.Common.{◌≡◌, ◌-◌, ◌^◌, ◌++◌, ℕ, List, Some, vec_len}
+use Rattle.std.proofs.Common.{◌≡◌, ◌-◌, ◌^◌, ℕ, List, Some, vec_len}
 use Rattle.streams.specs.Watched.{has_failed, watched}
 use Rattle.streams.specs.seen.Lines.{HasBegun, left}
 use Rattle.streams.proofs.lines.Lines.read_rest.Given as goal
