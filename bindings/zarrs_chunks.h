@@ -9,34 +9,34 @@
  * and an encoding as numbers, which the caller keeps. The batches, `zarrs_prepared_...`, take these numbers. No call keeps anything, so calls may
  * run in several threads at once.
  *
- * Each call answers ZARRS_OK or one of the codes below. After another code than ZARRS_OK and ZARRS_SHORT_BUFFER the buffers that are written to
- * hold anything, but nothing is written beside them; what a call tells of its refusal all the same is said there. After these two, what lies behind a
- * text, behind the numbers of a grid or an encoding and behind the parts that are written is as it was. zarrs_code_words says in words what a code
+ * Each call returns ZARRS_OK or one of the codes below. After ZARRS_OK and ZARRS_SHORT_BUFFER, the rest of a buffer is as it was: what follows a text,
+ * the numbers of a grid or an encoding, or the parts that are written. After any other code, the buffers that are written to hold anything, but
+ * nothing is written outside of them. If a call still says something of its refusal, its comment says so. zarrs_code_words says in words what a code
  * is, zarrs_grid_fault and zarrs_encoding_fault what metadata lack.
  *
- * Where several things are wrong, the first of them is told, in this order, which is the same for all calls:
+ * If several things are wrong, a call reports the first of them, in this order, which is the same for all calls:
  *
- * 1. the metadata of the grid: ZARRS_NOT_JSON, ZARRS_NOT_METADATA, ZARRS_REFUSED; then that of the encoding, by the same three codes; or the
+ * 1. the metadata of the grid: ZARRS_NOT_JSON, ZARRS_NOT_METADATA, ZARRS_REFUSED; then the metadata of the encoding, by the same three codes; or the
  *    numbers of a prepared grid or encoding: ZARRS_NOT_PREPARED
  * 2. the lengths of the arrays: ZARRS_WRONG_LENGTH
- * 3. a start and a shape that are those of no box: ZARRS_NOT_A_BOX; in a batch, those of some list
- * 4. the offsets: ZARRS_WRONG_OFFSETS; those of some text
+ * 3. a start and a shape that make no box, in a batch for some list: ZARRS_NOT_A_BOX
+ * 4. the offsets of some text: ZARRS_WRONG_OFFSETS
  * 5. the room for the text of an answer, or for the numbers of a grid or an encoding: ZARRS_SHORT_BUFFER
  *
  * ZARRS_OUT_OF_MEMORY may come in place of any answer.
  *
- * Where a call has `found`, an array of n bytes, the byte of a list becomes 1 where there is an answer to it, and 0 where there is none; the
- * numbers of an answer that isn't there stay as they were, after ZARRS_OK.
+ * Some calls have `found`, an array of n bytes. The byte of a list becomes 1 if there is an answer to the list, and 0 if not. After ZARRS_OK, the
+ * numbers of an answer that isn't there stay as they were.
  *
- * The caller sees to it that each pointer points to as many items as it says, that they are aligned to their type, and that what is written to
- * overlaps no other buffer of the call and is touched by no other thread until the call returns. No thread changes a text that is read until then:
- * it is read more than once. Besides:
+ * The caller must make sure that each pointer points to as many items as the call is given for it, and that they are aligned to their type. A buffer
+ * that is written to must overlap no other buffer of the call, and no other thread may touch it until the call returns. Until then, no thread may
+ * change a text that is read: it is read more than once. Besides:
  *
- * - A call needs at most ZARRS_STACK bytes of stack. Most of that is for metadata that nest: JSON is read 127 deep, also in members that say nothing.
- *   What says nothing but a grid or an encoding needs a quarter of it.
- * - Metadata and questions may hold numbers that are no whole ones. Reading them may raise flags of floating-point exceptions, as `1e999` raises that of
- *   an overflow. Who traps these holds them back around a call: feholdexcept before, fesetenv after it.
- * - It is built for x86-64-v2: processors with SSE4.2, SSSE3, POPCNT and CMPXCHG16B.
+ * - A call needs at most ZARRS_STACK bytes of stack. Most of that is for nested metadata: JSON is read 127 deep, also in members that say nothing.
+ *   Metadata that say nothing but a grid or an encoding need a quarter of it.
+ * - Metadata and questions may hold numbers that aren't whole. Reading them may raise flags of floating-point exceptions, as `1e999` raises the flag of
+ *   an overflow. If you trap these exceptions, hold them back around a call: feholdexcept before, fesetenv after it.
+ * - The library is built for x86-64-v2: processors with SSE4.2, SSSE3, POPCNT and CMPXCHG16B.
  */
 #ifndef ZARRS_CHUNKS_H
 #define ZARRS_CHUNKS_H
@@ -48,10 +48,10 @@
 extern "C" {
 #endif
 
-/* The version of this interface. That of the library that is loaded is told by zarrs_abi_version; the two are to be equal. */
+/* The version of this interface. zarrs_abi_version returns the interface version of the library that is loaded; the two must be equal. */
 #define ZARRS_ABI_VERSION 3
 
-/* The version of the library that this header is of. That of the library that is loaded is told by zarrs_version. */
+/* The version of the library that this header belongs to. zarrs_version writes the version of the library that is loaded. */
 #define ZARRS_VERSION "0.1.0"
 
 /* How many bytes of stack a call needs at most. */
@@ -63,26 +63,26 @@ extern "C" {
 #define ZARRS_OUT_OF_MEMORY (-1)
 /* An array has more or fewer items than the others demand. */
 #define ZARRS_WRONG_LENGTH (-2)
-/* The metadata is no text of JSON. */
+/* The metadata isn't a text of JSON. */
 #define ZARRS_NOT_JSON (-3)
-/* The metadata is JSON, and no extension's. */
+/* The metadata is JSON, but not an extension's metadata. */
 #define ZARRS_NOT_METADATA (-4)
 /* The grid or the encoding is refused. zarrs_grid_fault and zarrs_encoding_fault give the words. */
 #define ZARRS_REFUSED (-5)
-/* A start and a shape are those of no box: it ends past 18446744073709551615. */
+/* A start and a shape make no box: it ends past 18446744073709551615. */
 #define ZARRS_NOT_A_BOX (-6)
 /* Offsets descend, or lie past the text. */
 #define ZARRS_WRONG_OFFSETS (-7)
-/* The text of the answer is longer than its buffer, or the numbers of a grid or an encoding are more; `needed` tells how long it is, or how
- * many they are. */
+/* The text of the answer is longer than its buffer, or a grid or an encoding has more numbers than its buffer. `needed` says how long the text
+ * is, or how many numbers there are. */
 #define ZARRS_SHORT_BUFFER (-8)
-/* Numbers aren't those of a prepared grid, or of a prepared encoding. */
+/* The numbers aren't a prepared grid's, or a prepared encoding's. */
 #define ZARRS_NOT_PREPARED (-9)
 
-/* The version of the interface of the library that is loaded. */
+/* Returns the version of the interface of the library that is loaded. */
 int32_t zarrs_abi_version(void);
 
-/* The version of the library that is loaded, as text. *needed gets how many bytes it has. ZARRS_SHORT_BUFFER where version is shorter: nothing is
+/* Writes the version of the library that is loaded, as text. *needed gets how many bytes it has. ZARRS_SHORT_BUFFER if version is shorter: nothing is
  * written to it. */
 int32_t zarrs_version(
     uint8_t *version, size_t version_len,
@@ -91,7 +91,7 @@ int32_t zarrs_version(
 /* Writes the numbers of a grid, for the five calls below.
  *
  *   needed   how many numbers there are: 2, 4 for each dimension, and 3 for each run of equal edges. One edge for all chunks is one run, or
- *            none where there is no chunk
+ *            none if there is no chunk
  *
  * ZARRS_SHORT_BUFFER if numbers has room for fewer: nothing is written to it, but needed is written.
  *
@@ -162,7 +162,7 @@ int32_t zarrs_prepared_covers_of(
     uint8_t *found, size_t found_len,
     size_t *wrong);
 
-/* Writes the numbers of an encoding, for the two calls below. They are kept and used as the numbers of a grid are.
+/* Writes the numbers of an encoding, for the two calls below. Keep and use them as the numbers of a grid.
  *
  *   needed   how many numbers there are: 3, and one for each byte of the suffix
  *
@@ -217,34 +217,36 @@ struct zarrs_element_box {
     const uint64_t *shape; size_t shape_len;
 };
 
-/* Where zarrs_parts_of writes n parts at most, and what it tells of them. The caller sets each pointer and its length, which stay as they are; the
+/* Where zarrs_parts_of writes at most n parts, and what it says of them. The caller sets each pointer and its length, which stay as they are. The
  * four numbers at the end may hold anything before the call. */
 struct zarrs_part_buffers {
     uint64_t *chunks; size_t chunks_len; /* n * d: the chunk of each part */
-    uint64_t *in_chunk; size_t in_chunk_len; /* n * d: the part's first element, counted from that of the chunk */
-    uint64_t *in_selection; size_t in_selection_len; /* n * d: the same, counted from that of the box */
+    uint64_t *in_chunk; size_t in_chunk_len; /* n * d: the part's first element, counted from the chunk's first element */
+    uint64_t *in_selection; size_t in_selection_len; /* n * d: the same, counted from the box's first element */
     uint64_t *shapes; size_t shapes_len; /* n * d: the part's shape */
     uint8_t *text; size_t text_len; /* the keys of the chunks, as zarrs_prepared_keys_of writes them */
     uint64_t *offsets; size_t offsets_len; /* n + 1: where each key begins in the text, and at last where the last one ends */
     size_t needed; /* how many bytes the keys have */
     size_t count; /* how many parts are written */
-    uint64_t in_all; /* how many parts the plan has, and 18446744073709551615 where it has more: those past that number can't be asked for */
-    uint8_t found; /* 0 where the first or the last element of the box lies in no chunk: the three numbers above are 0 then; and else 1 */
+    uint64_t in_all; /* how many parts the plan has, or 18446744073709551615 if it has more: the parts past that number can't be asked for */
+    uint8_t found; /* 0 if the first or the last element of the box lies in no chunk, and then the three numbers above are 0; 1 if not */
 };
 
-/* The plan of reading a box of elements: a part for each chunk that holds some of the box, in row-major order of the chunks. Of the plan the part
- * with the number `first`, counted from 0, and those after it, as many as there is room for; those before it take no time. An empty box has a plan
- * without parts. ZARRS_NOT_A_BOX where the box ends past 18446744073709551615. ZARRS_SHORT_BUFFER where the text is shorter than the keys: all but
- * the text is written all the same. */
+/* Writes the plan of reading a box of elements: a part for each chunk that holds some of the box, in row-major order of the chunks. It begins with
+ * the part with the number `first`, counted from 0, and writes as many parts as there is room for. The parts before `first` take no time. An empty
+ * box has a plan without parts. ZARRS_NOT_A_BOX if the box ends past 18446744073709551615. ZARRS_SHORT_BUFFER if the text is shorter than the keys:
+ * all but the text is still written. */
 int32_t zarrs_parts_of(
     const struct zarrs_stored_array *array,
     const struct zarrs_element_box *elements,
     uint64_t first,
     struct zarrs_part_buffers *buffers);
 
-/* The line that answers a question, which is a JSON object as crates/chunkcalls/CALLING.md says: an answer as compact JSON, or `refused:` or
- * `unreadable:` and why; and a line feed. *needed gets how many bytes it has. ZARRS_SHORT_BUFFER where line is shorter: nothing is written to
- * it. A walk ends where its items alone are longer than the buffer, so a call takes no more memory than in proportion to the question and the buffer,
+/* Writes the line that answers a question, which is a JSON object as crates/chunkcalls/CALLING.md says. The line is an answer as compact JSON, or
+ * `refused:` or `unreadable:` and why; a line feed ends it. *needed gets how many bytes it has. ZARRS_SHORT_BUFFER if line is shorter: nothing is
+ * written to it.
+ *
+ * A walk ends when its items alone are longer than the buffer. So a call takes no more memory than in proportion to the question and the buffer,
  * however many items are asked for. Then *needed is SIZE_MAX, since the length isn't known: a greater buffer may do, or fewer items, from a later
  * one on. */
 int32_t zarrs_answer(
@@ -252,22 +254,22 @@ int32_t zarrs_answer(
     uint8_t *line, size_t line_len,
     size_t *needed);
 
-/* Why metadata say no grid of an array of this shape. It answers the code that zarrs_prepare_grid does, and writes it in words: *needed gets how
- * many bytes they have, and where words is shorter, nothing is written to it. ZARRS_OK where they say one, and *needed is 0 then. */
+/* Writes in words why metadata say no grid of an array of this shape, and returns the code that zarrs_prepare_grid returns. *needed gets how many
+ * bytes the words have. If the buffer is shorter, nothing is written to it. ZARRS_OK if the metadata say a grid, and *needed is 0 then. */
 int32_t zarrs_grid_fault(
     const uint64_t *shape, size_t shape_len,
     const uint8_t *chunk_grid, size_t chunk_grid_len,
     uint8_t *words, size_t words_len,
     size_t *needed);
 
-/* The same of metadata that say no encoding. */
+/* Does the same for metadata that say no encoding. */
 int32_t zarrs_encoding_fault(
     const uint8_t *chunk_key_encoding, size_t chunk_key_encoding_len,
     uint8_t *words, size_t words_len,
     size_t *needed);
 
-/* What a code says, in words; of a number that is none, that it is none. *needed gets how many bytes they have. ZARRS_SHORT_BUFFER where words is
- * shorter: nothing is written to it. */
+/* Writes what a code says, in words. For a number that isn't a code, they say that it isn't one. *needed gets how many bytes they have.
+ * ZARRS_SHORT_BUFFER if words is shorter: nothing is written to it. */
 int32_t zarrs_code_words(
     int32_t code,
     uint8_t *words, size_t words_len,
