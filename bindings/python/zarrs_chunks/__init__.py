@@ -10,22 +10,22 @@ chunk is stored. `Grid` and `Encoding` answer many questions at once, over numpy
     >>> Encoding("default").encode(chunks)
     ['c/3/2/16', 'c/0/0/0']
 
-A grid and an encoding are made of metadata, or by `Grid.of` and `Encoding.of` of a stored array; `Grid.box` makes a box of elements of a selection,
-as in `grid.parts(encoding, *grid.box(np.s_[3:6, ..., -1]))`. Calls whose argument is one chunk, one element or one box are asked of that alone; all
-others are asked of many at once.
+A grid and an encoding are made of metadata, or of a stored array by `Grid.of` and `Encoding.of`. `Grid.box` makes a box of elements of a selection,
+as in `grid.parts(encoding, *grid.box(np.s_[3:6, ..., -1]))`. Calls whose argument is one chunk, one element or one box take one at a time. All other
+calls take many at once.
 
-Lists of numbers are arrays whose last axis has a number for each dimension; the other axes are those of the answer. Numbers are whole ones from 0
+Lists of numbers are arrays whose last axis has a number for each dimension; the other axes are the axes of the answer. Numbers are whole ones from 0
 to 18446744073709551615: ints, numpy's integers, what has `__index__`, and arrays of any integer type. Floats are refused, and so are arrays of
-truth values; an array without items may be of any type. What is answered is `uint64`. An array that isn't `uint64`, contiguous and aligned is
-copied. Each answer is a new array, so it overlaps nothing. `found` tells where there is an answer; where there is none the numbers are 0.
+truth values; an array without items may be of any type. Answers are `uint64`. An array that isn't `uint64`, contiguous and aligned is copied. Each
+answer is a new array, so it overlaps nothing. `found` says which lists have an answer; for the others the numbers are 0.
 
 A `Grid` and an `Encoding` keep copies of what they are made of, and never change, so any number of threads may ask them at once. An answer takes
 as much memory as its numbers and keys.
 
-What the calls of one list and the walks answer is of Python's own numbers, in tuples, and None where there is no answer. A walk is read page by page.
+The calls of one list and the walks answer in Python's own numbers, in tuples, and None if there is no answer. A walk is read page by page.
 
-What the library refuses is raised as a ValueError with its own words; what is given of the wrong type as a TypeError, and a wrong value as a
-ValueError, which say in which argument; and too little memory as a MemoryError, after which all objects can be used as before.
+What the library refuses is raised as a ValueError with its own words. An argument of the wrong type raises a TypeError, and a wrong value a
+ValueError; both say in which argument. Too little memory raises a MemoryError, after which all objects can be used as before.
 """
 
 from ._answer import answer

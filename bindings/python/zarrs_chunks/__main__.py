@@ -1,7 +1,7 @@
 """Answers questions, a line each, from standard input: `python -m zarrs_chunks`.
 
-It answers as the program `chunkcalls` does, whose page tells the questions: what has been read is answered, and the answer written out, before
-more is read, so it can be kept running and asked a line at a time. The status is 0, or 1 after a fault, which a line on standard error tells.
+It answers as the program `chunkcalls` does, whose page lists the questions. What has been read is answered, and the answer written out, before
+more is read. So it can be kept running and asked a line at a time. The status is 0, or 1 after an error, which a line on standard error reports.
 """
 
 from __future__ import annotations
@@ -61,14 +61,14 @@ def _write(answers: BinaryIO, line: str) -> None:
 
 
 def _bytes_of(stream: TextIO | None, fault: str) -> BinaryIO:
-    """The bytes of a standard stream, which is None where it was closed."""
+    """The bytes of a standard stream, which is None if it was closed."""
     if stream is None:
         raise Fault(fault)
     return stream.buffer
 
 
 def main(words: Sequence[str]) -> None:
-    """Does what the words of a command line ask for. Raises Fault where it can't."""
+    """Does what the words of a command line ask for. Raises Fault if it can't."""
     if len(words) > 1 or not {*words} <= {"--help", "--version"}:
         raise Fault("it takes `--help` or `--version`, or no word")
     try:
@@ -86,5 +86,5 @@ if __name__ == "__main__":
         main(sys.argv[1:])
     except Fault as fault:
         print(f"zarrs_chunks: {fault}", file=sys.stderr, flush=True)
-        # What is still held for an output that failed is let go, without a second fault.
+        # What is still held for an output that failed is dropped, without a second error.
         os._exit(1)

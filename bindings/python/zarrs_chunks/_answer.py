@@ -1,4 +1,4 @@
-"""Answers that are text: those to any question, and the words of a refusal."""
+"""Answers that are text: the answers to any question, and the words of a refusal."""
 
 from __future__ import annotations
 
@@ -8,14 +8,14 @@ from typing import Any, NoReturn
 from . import _library
 from ._metadata import json_text
 
-# What the library tells where it doesn't know how long an answer is, and the longest that is asked for, in bytes.
+# The length that the library returns if it doesn't know how long an answer is, and the greatest length that is asked for, in bytes.
 _UNKNOWN = 2**64 - 1
 _LONGEST = 2**30
 
 
 def answer(question: Mapping[str, Any]) -> str:
-    """The library's answer to any question of `chunkcalls`, as crates/chunkcalls/CALLING.md tells them: a `dict` goes in, and out comes a text,
-    which is compact JSON, or `refused: ` or `unreadable: ` and why. Raises MemoryError where the answer is longer than 1073741824 bytes.
+    """The library's answer to any question of `chunkcalls`, as crates/chunkcalls/CALLING.md lists them. The question is a `dict`. The answer is a
+    text: compact JSON, or `refused: ` or `unreadable: ` and why. Raises MemoryError if the answer is longer than 1073741824 bytes.
 
     >>> answer({"chunk_key_encoding": "v2", "call": "encode", "of": [1, 23, 45]})
     '"1.23.45"'
@@ -28,7 +28,7 @@ def answer(question: Mapping[str, Any]) -> str:
 
 
 def line_of(question: bytes, room: int = 256) -> str:
-    """The line that answers the text of a question, without its line feed. It is given so much room at first.
+    """The line that answers the text of a question, without its line feed. It is given `room` bytes at first.
 
     >>> line_of(b"[1,2")
     'unreadable: not JSON'
@@ -40,7 +40,7 @@ def line_of(question: bytes, room: int = 256) -> str:
 
 
 def line_within(question: bytes, room: int) -> str | None:
-    """The same, or None where the line and its line feed are longer than so many bytes.
+    """The same, or None if the line and its line feed are longer than `room` bytes.
 
     >>> line_within(b"[1,2", 21), line_within(b"[1,2", 20)
     ('unreadable: not JSON', None)
@@ -50,7 +50,7 @@ def line_within(question: bytes, room: int) -> str | None:
 
 
 def text_of(name: str, buffer: str, room: int = 256, **given: Any) -> tuple[int, str]:
-    """The code of a call that writes a text to a buffer, and the text, for which it is given so much room, and then as much as it needs."""
+    """The code of a call that writes a text to a buffer, and the text. The call is given `room` bytes for it, and then as much as it needs."""
     while room <= _LONGEST:
         code, text, needed = _text_within(name, buffer, room, **given)
         if text is not None:
@@ -60,7 +60,7 @@ def text_of(name: str, buffer: str, room: int = 256, **given: Any) -> tuple[int,
 
 
 def _text_within(name: str, buffer: str, room: int, **given: Any) -> tuple[int, str | None, int]:
-    """The same with so much room and no more: the code, the text, which is None where it is longer, and how long it is."""
+    """The same with `room` bytes and no more: the code, the text, which is None if it is longer, and how long it is."""
     text = _library.text_room(room)
     code, told = _library.call(name, **given, **{buffer: text})
     if code == _library.OUT_OF_MEMORY:

@@ -43,9 +43,9 @@ def given_box(argument: str, value: Any) -> Box:
 
 
 def slabs(box: Box, first: int, most: int) -> Iterator[tuple[Box, int, int]]:
-    """Of the lists of numbers in a box, in row-major order, the one with the number `first`, counted from 0, and those after it, `most` in all: boxes
-    that lie in this one, each with the number that the first of them has there, and how many of them lie there. Each box has at most
-    18446744073709551615, so that a question can ask for any of them by its number.
+    """Boxes that lie in this one and hold some of its lists of numbers, in row-major order. These are the list with the number `first`, counted from 0,
+    and those after it, `most` in all. Each box comes with the number that the first of these lists has in it, and how many of them lie in it. Each box
+    has at most 18446744073709551615 lists, so that a question can ask for any of them by its number.
 
     >>> list(slabs(Box((5, 0), (2, 2**63)), 2**63 + 1, 3))
     [(Box(start=(6, 0), shape=(1, 9223372036854775808)), 1, 3)]

@@ -14,8 +14,8 @@ from ._questions import ask, plain_text
 
 
 class ByteRanges(NamedTuple):
-    """Ranges of bytes, all of one length, as many as the product of `counts`. For each list of numbers `k`, with `k[d]` below `counts[d]`, one begins
-    at `first` + `k[0]` * `strides[0]` + `k[1]` * `strides[1]` and so on. Where the lists are empty, there is one."""
+    """Ranges of bytes, all of one length. Their number is the product of `counts`. For each list of numbers `k`, with `k[d]` below `counts[d]`, a range
+    begins at `first` + `k[0]` * `strides[0]` + `k[1]` * `strides[1]` and so on. If the lists are empty, there is one range."""
 
     first: int
     """Where the first range begins, counted from the first byte of the chunk's object."""
@@ -24,11 +24,11 @@ class ByteRanges(NamedTuple):
     counts: tuple[int, ...]
     """How many ranges follow one another along each dimension of ranges, the outermost first."""
     strides: tuple[int, ...]
-    """As many numbers as `counts`: how many bytes there are from the beginning of one to that of the next along each of these dimensions."""
+    """As many numbers as `counts`: the bytes from the beginning of one range to the beginning of the next along each of these dimensions."""
 
     def ranges(self) -> Iterator[tuple[int, int]]:
-        """Each range as its beginning and the end behind its last byte, one after another as they are asked for: they ascend, no byte is in two, and
-        no two can be joined.
+        """Each range as its beginning and the end after its last byte, one after another as they are asked for. The ranges ascend, no byte is in two,
+        and no two can be joined.
 
         >>> list(ByteRanges(first=5, length=2, counts=(2, 2), strides=(12, 4)).ranges())
         [(5, 7), (9, 11), (17, 19), (21, 23)]
@@ -47,14 +47,14 @@ class ByteRanges(NamedTuple):
 
 
 def byte_ranges(chunk_shape: npt.ArrayLike, box: Any, item_size: SupportsIndex, order: str = "C") -> ByteRanges | None:
-    """Which bytes of a chunk's object hold the elements of a box of the chunk: a start, counted from the chunk's first element, and a shape. The
-    object is the chunk's elements, stored in `order`, each in `item_size` bytes, and nothing else: it isn't compressed. `C` is row-major, as the
-    codec `bytes` writes a chunk; `F` is column-major, as `bytes` behind `transpose` with all dimensions reversed does, and format 2 where `order`
-    is `F`.
+    """Which bytes of a chunk's object hold the elements of a box of the chunk. The box is a start, counted from the chunk's first element, and a shape.
+    The object is the chunk's elements, stored in `order`, each in `item_size` bytes, and nothing else: it isn't compressed. `C` is row-major, as the
+    codec `bytes` writes a chunk. `F` is column-major, as `bytes` after `transpose` with all dimensions reversed writes it, and format 2 if `order` is
+    `F`.
 
-    The bytes of the ranges, one range behind another, are the box's elements in the same order. An empty box has no range. None where the box ends
-    past the chunk, or isn't empty and the object would be longer than 18446744073709551615 bytes. A ValueError where the box has another number of
-    dimensions than the chunk.
+    The bytes of the ranges, one range after another, are the box's elements in the same order. An empty box has no range. None if the box ends
+    past the chunk, or if it isn't empty and the object would be longer than 18446744073709551615 bytes. Raises ValueError if the box has another number
+    of dimensions than the chunk.
 
     >>> found = byte_ranges([2, 3, 4], ([0, 1, 1], [2, 2, 2]), item_size=1)
     >>> found
@@ -69,7 +69,7 @@ def byte_ranges(chunk_shape: npt.ArrayLike, box: Any, item_size: SupportsIndex, 
         raise ValueError("item_size: an element has one byte or more")
     if not isinstance(order, str):
         raise TypeError(f"order: a text is wanted, and not a {type(order).__name__}")
-    # The text itself, and none of a class that is derived of it and compares otherwise.
+    # The text itself, and not one of a derived class that compares otherwise.
     memory_order = str.__str__(order)
     if memory_order not in ("C", "F"):
         raise ValueError("order: it is `C` or `F`")

@@ -20,7 +20,7 @@ from ._texts import MOST_KEYS, Key, Text, as_bytes, keys_as_bytes
 
 
 class Encoding:
-    """A chunk key encoding: under which key each chunk of an array is stored. It never changes, and two are equal that were made of the same.
+    """A chunk key encoding: under which key each chunk of an array is stored. It never changes. Two are equal if made of the same metadata.
 
     `chunk_key_encoding` is what the member `chunk_key_encoding` of the array's `zarr.json` holds: an object as a `dict`, or a name alone.
 
@@ -85,7 +85,7 @@ class Encoding:
 
     @property
     def configuration(self) -> dict[str, Any] | None:
-        """The configuration, as it was given, as a new `dict`; None where there was none.
+        """The configuration, as it was given, as a new `dict`; None if there was none.
 
         >>> Encoding({"name": "v2", "configuration": {"separator": "/"}}).configuration
         {'separator': '/'}
@@ -93,7 +93,7 @@ class Encoding:
         return self._metadata.configuration()
 
     def encode(self, chunks: npt.ArrayLike) -> Any:
-        """The key of each chunk, in lists that nest as the chunks do. Raises MemoryError where there are more than 16777216.
+        """The key of each chunk, in lists that nest as the chunks do. Raises MemoryError if there are more than 16777216.
 
         >>> Encoding("default").encode([[0, 0], [10, 2]])
         ['c/0/0', 'c/10/2']
@@ -113,7 +113,7 @@ class Encoding:
         return keys.reshape(lists.shape[:-1]).tolist()
 
     def encode_text(self, chunks: npt.ArrayLike) -> tuple[bytes, Numbers]:
-        """The keys of chunks as one text of bytes, and where each begins there, with the end of the last one: for very many keys.
+        """The keys of chunks as one text of bytes, and where each begins there and the last one ends. It is for very many keys.
 
         >>> text, offsets = Encoding("default").encode_text([[0, 0], [10, 2]])
         >>> text, offsets.tolist()
@@ -122,8 +122,8 @@ class Encoding:
         return self._keys(_chunks(chunks))
 
     def decode(self, keys: Iterable[Key], dimensionality: SupportsIndex) -> tuple[Numbers, Marks]:
-        """The chunk with this many numbers whose key each text is, and whether there is one. The chunk may lie outside of the grid. Each key is
-        a `str` or bytes. Raises MemoryError where there are more than 16777216.
+        """The chunk with `dimensionality` numbers that has each key, and whether there is one. The chunk may lie outside of the grid. Each key is
+        a `str` or bytes. Raises MemoryError if there are more than 16777216.
 
         >>> chunks, found = Encoding("default").decode(["c/10/2", "c/10/02"], 2)
         >>> chunks.tolist(), found.tolist()
@@ -159,7 +159,7 @@ class Encoding:
         return text[: told["needed"]].tobytes(), offsets
 
     def _chunks_of_keys(self, text: bytes, offsets: Numbers, dimensionality: int) -> tuple[Numbers, Marks]:
-        """The chunks of keys of which nobody changes the text or the offsets meanwhile: the library reads them twice."""
+        """The chunks of keys. Nobody may change the text or the offsets meanwhile: the library reads them twice."""
         chunks, found = _library.room((offsets.size - 1, dimensionality)), _library.room(offsets.size - 1, np.uint8)
         code, told = self._call("zarrs_prepared_chunks_of_keys", dimensionality=dimensionality, text=text, offsets=offsets, chunks=chunks, found=found)
         if code == _library.WRONG_OFFSETS:
@@ -180,7 +180,7 @@ def _chunks(chunks: npt.ArrayLike) -> Numbers:
 
 
 def usual_length(count: int, dimensionality: int) -> int:
-    """How many bytes so many keys seldom exceed."""
+    """How many bytes `count` keys seldom exceed."""
     return count * (2 + 6 * dimensionality)
 
 

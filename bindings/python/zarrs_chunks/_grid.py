@@ -21,10 +21,10 @@ from ._stored import Description, Stored
 from ._task_counts import TaskCounts, counts_of
 from ._tasks import Task, ends_of_share, given_chunks, given_order, given_share, groups_of, task_of
 
-# How much a single answer of `parts` holds at most, which then takes some gigabytes of memory: so many numbers of each kind, where each part
+# How much a single answer of `parts` holds at most, which then takes some gigabytes of memory. It is this many numbers of each kind; each part
 # counts as four numbers more.
 _MOST_NUMBERS = 2**25
-# The encoding of questions that are answered alike whichever it is.
+# The encoding of questions whose answer doesn't depend on it.
 _ANY_ENCODING = b'"default"'
 
 
@@ -42,11 +42,11 @@ class Parts(NamedTuple):
     keys: list[str]
     """The key of each chunk."""
     in_all: int
-    """How many parts the plan has in all, and 18446744073709551615 where it has more."""
+    """How many parts the plan has in all, or 18446744073709551615 if it has more."""
 
 
 class Located(NamedTuple):
-    """Where an element is stored."""
+    """The place where an element is stored."""
 
     chunk: tuple[int, ...]
     """The chunk that holds it."""
@@ -60,13 +60,13 @@ class Counted(NamedTuple):
     """What a look-up finds, and what it takes."""
 
     chunk: tuple[int, ...] | None
-    """The chunk, or None where there is none."""
+    """The chunk, or None if there is no chunk."""
     comparisons: int
     """How many comparisons the look-up makes."""
 
 
 class Grid:
-    """A chunk grid: the chunks into which an array of this shape is cut. It never changes, and two are equal that were made of the same.
+    """A chunk grid: the chunks into which an array of this shape is cut. It never changes. Two are equal if made of the same shape and metadata.
 
     `shape` is a list of the array's sizes, in elements, and `chunk_grid` what the member `chunk_grid` of the array's `zarr.json` holds: an object
     as a `dict`, or a name alone.
@@ -88,8 +88,8 @@ class Grid:
 
     @classmethod
     def of(cls, array: Stored) -> Grid:
-        """The grid of a stored array: of the path of its folder, where a `zarr.json` lies (format 3) or a `.zarray` (format 2), or of an array of
-        zarr-python 2. Raises FileNotFoundError where the folder has neither, and ValueError where its metadata are those of no array.
+        """The grid of a stored array. `array` is the path of its folder with a `zarr.json` (format 3) or a `.zarray` (format 2), or an array of
+        zarr-python 2. Raises FileNotFoundError if the folder has neither, and ValueError if its metadata aren't an array's.
 
         >>> import pathlib, tempfile
         >>> with tempfile.TemporaryDirectory() as folder:
@@ -138,7 +138,7 @@ class Grid:
 
     @property
     def configuration(self) -> dict[str, Any] | None:
-        """The configuration, as it was given, as a new `dict`; None where there was none.
+        """The configuration, as it was given, as a new `dict`; None if there was none.
 
         >>> Grid([5, 7], {"name": "regular", "configuration": {"chunk_shape": [2, 3]}}).configuration
         {'chunk_shape': [2, 3]}
@@ -213,8 +213,8 @@ class Grid:
         return self._prepared.ask("zarrs_prepared_chunk_boxes_of", 2, lists_of_numbers("chunks", chunks, self._dimensionality))
 
     def chunks_in_array_subset(self, starts: npt.ArrayLike, shapes: npt.ArrayLike) -> tuple[Numbers, Numbers, Marks]:
-        """The cover of each box of elements, which is given as its start and its shape: the first of the chunks that hold some of them, how
-        many such chunks there are along each dimension, and whether the first and the last element lie in chunks.
+        """The cover of each box of elements, which is given as its start and its shape. It is the first of the chunks that hold some of the elements,
+        and how many of these chunks there are along each dimension. The marks say whether the first and the last element lie in chunks.
 
         >>> grid = Grid([6, 6], {"name": "regular", "configuration": {"chunk_shape": [4, 3]}})
         >>> first, counts, found = grid.chunks_in_array_subset([3, 2], [3, 2])
@@ -229,10 +229,9 @@ class Grid:
     def parts(
         self, encoding: Encoding, start: npt.ArrayLike, shape: npt.ArrayLike, first: SupportsIndex = 0, most: SupportsIndex | None = None
     ) -> Parts | None:
-        """The plan of reading a box of elements, which is given as its start and its shape: the parts of the chunks that hold some of them, in
-        row-major order of the chunks. Of the plan the part with the number `first` and those after it, at most `most` of them. `None` where the
-        first or the last element of the box lies in no chunk. Raises MemoryError where more parts are asked for than one answer holds, some
-        millions.
+        """The plan of reading a box of elements, which is given as its start and its shape. It has the parts of the chunks that hold some of the
+        elements, in row-major order of the chunks. The answer begins with the part with the number `first`, and has at most `most` parts. `None` if the
+        first or the last element of the box lies in no chunk. Raises MemoryError if more parts are asked for than one answer holds, some millions.
 
         >>> from zarrs_chunks import Encoding
         >>> grid = Grid([6, 6], {"name": "regular", "configuration": {"chunk_shape": [4, 3]}})
@@ -258,7 +257,7 @@ class Grid:
         return self._some_parts(encoding, box, number, room)
 
     def _some_parts(self, encoding: Encoding, box: dict[str, Numbers], first: int, room: int) -> Parts | None:
-        """So many parts of the plan of a box, or as many as it has; None where there is no plan. Nobody else has the box's arrays."""
+        """`room` parts of the plan of a box, or fewer if it has fewer; None if there is no plan. Nobody else has the box's arrays."""
         lists = {name: _library.room((room, self.dimensionality)) for name in ("chunks", "in_chunk", "in_selection", "shapes")}
         offsets, length, code = _library.room(room + 1), usual_length(room, self.dimensionality), _library.SHORT_BUFFER
         array = {"shape": self._shape, "chunk_grid": self._metadata.text, "chunk_key_encoding": encoding._metadata.text}
@@ -275,10 +274,10 @@ class Grid:
         return Parts(**{name: numbers[: told["count"]] for name, numbers in lists.items()}, keys=keys, in_all=told["in_all"])
 
     def box(self, selection: Any) -> Box:
-        """The box of elements that a basic selection of numpy's stands for, as the calls of a box take it: ints and slices, a tuple of them, and an
-        ellipsis. Negative numbers count from the end, and a slice ends with the array. A box has the dimensions of the array, so an int selects one
-        element and keeps its dimension, with the size 1. Raises IndexError where an int lies outside of the array, or where there are more items
-        than dimensions; and refuses what selects no box: other steps than 1, `newaxis`, lists, arrays and truth values.
+        """The box of elements that a basic selection of numpy's stands for, as the calls of a box take it. A selection is an int, a slice, an ellipsis,
+        or a tuple of these. Negative numbers count from the end, and a slice ends with the array. A box has the dimensions of the array, so an int
+        selects one element and keeps its dimension, with the size 1. Raises IndexError if an int lies outside of the array, or if there are more items
+        than dimensions. Refuses what selects no box: other steps than 1, `newaxis`, lists, arrays and truth values.
 
         >>> grid = Grid([5, 7], {"name": "regular", "configuration": {"chunk_shape": [2, 3]}})
         >>> grid.box(np.s_[1:, -2])
@@ -290,7 +289,7 @@ class Grid:
         return selected_box(selection, self.array_shape)
 
     def chunk_shape(self, chunk: npt.ArrayLike) -> tuple[int, ...] | None:
-        """How many elements one chunk has along each dimension; None where there is no such chunk. `subset` tells it of many chunks at once, where
+        """How many elements one chunk has along each dimension; None if there is no such chunk. `subset` returns it for many chunks at once, if
         they end at 18446744073709551615 or before. The questions `chunk_shape` and `chunk_shape_u64` have this one answer.
 
         >>> grid = Grid([5, 7], {"name": "zarrs.regular_bounded", "configuration": {"chunk_shape": [2, 3]}})
@@ -300,8 +299,8 @@ class Grid:
         return self._side_of_chunk("chunk_shape", chunk, 1)
 
     def chunk_origin(self, chunk: npt.ArrayLike) -> tuple[int, ...] | None:
-        """The first element of one chunk; None where there is no such chunk, or where it begins past 18446744073709551615. `subset` tells it of many
-        chunks at once, where they end there or before.
+        """The first element of one chunk; None if there is no such chunk, or if it begins past 18446744073709551615. `subset` returns it for many
+        chunks at once, if they end there or before.
 
         >>> grid = Grid([5, 7], {"name": "regular", "configuration": {"chunk_shape": [2, 3]}})
         >>> grid.chunk_origin([2, 2]), grid.chunk_origin([2**63, 0])
@@ -310,7 +309,7 @@ class Grid:
         return self._side_of_chunk("chunk_origin", chunk, 0)
 
     def _side_of_chunk(self, call: str, chunk: npt.ArrayLike, side: int) -> tuple[int, ...] | None:
-        """What the box of a chunk has on this side, or where it has none, what the question tells, which takes longer."""
+        """What the box of a chunk has on this side. If the chunk has no box, it is the answer to the question, which takes longer."""
         numbers = list_of_numbers("chunk", chunk)
         if numbers.size == self._dimensionality:
             *sides, found = self._prepared.ask("zarrs_prepared_chunk_boxes_of", 2, numbers)
@@ -320,8 +319,8 @@ class Grid:
         return None if answer is None else tuple(answer)
 
     def chunks_subset(self, start: npt.ArrayLike, shape: npt.ArrayLike) -> Box | None:
-        """The box of elements that one box of chunks holds, which is given as its start and its shape; None where its first or its last chunk has no
-        box of elements.
+        """The box of elements that one box of chunks holds. The box of chunks is given as its start and its shape. None if its first or its last chunk
+        has no box of elements.
 
         >>> grid = Grid([5, 7], {"name": "zarrs.regular_bounded", "configuration": {"chunk_shape": [2, 3]}})
         >>> grid.chunks_subset([1, 1], [2, 2])
@@ -332,7 +331,7 @@ class Grid:
         return None if answer is None else as_box(answer)
 
     def chunk_indices_inbounds(self, chunk: npt.ArrayLike) -> bool:
-        """Whether one chunk is among those that are counted: below the grid's shape along each dimension. Along a dimension of no chunks all are.
+        """Whether one chunk is among those that are counted: below the grid's shape along each dimension. Along a dimension without chunks, all are.
 
         >>> grid = Grid([5, 7], {"name": "regular", "configuration": {"chunk_shape": [2, 3]}})
         >>> grid.chunk_indices_inbounds([2, 2]), grid.chunk_indices_inbounds([3, 0]), grid.chunk_indices_inbounds([0])
@@ -341,7 +340,7 @@ class Grid:
         return bool(self._ask("chunk_indices_inbounds", of=list_of_numbers("chunk", chunk).tolist()))
 
     def array_indices_inbounds(self, index: npt.ArrayLike) -> bool:
-        """Whether one element lies in the array: below its shape along each dimension. Along a dimension of size 0 all do, or where its edges are
+        """Whether one element lies in the array: below its shape along each dimension. Along a dimension of size 0 all do, or if its edges are
         listed, those that lie in a chunk.
 
         >>> grid = Grid([5, 7], {"name": "regular", "configuration": {"chunk_shape": [2, 3]}})
@@ -351,8 +350,8 @@ class Grid:
         return bool(self._ask("array_indices_inbounds", of=list_of_numbers("index", index).tolist()))
 
     def locate(self, encoding: Encoding, index: npt.ArrayLike) -> Located | None:
-        """Where one element is stored: its chunk, its place there, and the chunk's key; None where no chunk holds it. `find_home` and `encode` tell
-        it of many elements at once.
+        """The place where one element is stored: its chunk, its place there, and the chunk's key; None if no chunk holds it. `find_home` and `encode`
+        return it for many elements at once.
 
         >>> grid = Grid([5, 7], {"name": "regular", "configuration": {"chunk_shape": [2, 3]}})
         >>> grid.locate(Encoding("default"), [4, 5])
@@ -367,8 +366,8 @@ class Grid:
         return Located(tuple(chunk.tolist()), tuple(element.tolist()), encoding.encode(chunk)) if found else None
 
     def runs(self, dimension: SupportsIndex) -> int | None:
-        """How many runs of equal edges the chunks of a `rectilinear` grid are along a dimension, counted from 0; None where there is no such
-        dimension, or where all its chunks have one edge. Raises ValueError for a grid of another name.
+        """How many runs of equal edges the chunks of a `rectilinear` grid are along a dimension, counted from 0. None if there is no such
+        dimension, or if all its chunks have one edge. Raises ValueError for a grid of another name.
 
         >>> grid = Grid([100], {"name": "rectilinear", "configuration": {"kind": "inline", "chunk_shapes": [[[5, 3], [15, 2], 20, 35]]}})
         >>> grid.runs(0), grid.runs(1)
@@ -410,7 +409,7 @@ class Grid:
         return (tuple(chunk) for chunk in self._walk("iter_chunk_indices", whole_number("first", first)))
 
     def iter_chunk_subsets(self, first: SupportsIndex = 0) -> Iterator[Box]:
-        """The boxes of these chunks, read likewise. A chunk that ends past 18446744073709551615 has none, and is passed over; `first` counts it.
+        """The boxes of these chunks, read likewise. A chunk that ends past 18446744073709551615 has no box, and is skipped; `first` counts it.
 
         >>> grid = Grid([5, 7], {"name": "regular", "configuration": {"chunk_shape": [2, 3]}})
         >>> next(grid.iter_chunk_subsets(first=7))
@@ -579,7 +578,7 @@ def _check_grid(argument: str, grid: object) -> None:
 
 
 def _given_copy(subset: Any, at: Any, task_chunks: Any, order: Any) -> dict[str, Any]:
-    """Returns what a copy and its tasks are, as the members of a question have it; what isn't given isn't among them."""
+    """Returns the members of a question that say what a copy and its tasks are. What isn't given isn't among them."""
     copy: dict[str, Any] = {} if subset is None else {"subset": given_box("subset", subset)}
     if at is not None:
         copy["at"] = list_of_numbers("at", at).tolist()

@@ -1,8 +1,8 @@
-"""The shared library: where it lies, which calls it has, and how each is made.
+"""The shared library: its place, its calls, and how each call is made.
 
-Every argument passes through `call`, but for those of the lists of a prepared grid or encoding, which `_prepared` passes. It takes arrays and bytes that are fit
-for the library, and makes pointers and lengths of them. What a caller of the package gives becomes such an array or bytes in `_numbers`, `_texts` and
-`_metadata`.
+Every argument passes through `call`, except those for the lists of a prepared grid or encoding, which `_prepared` passes. `call` takes arrays and
+bytes that are fit for the library, and makes pointers and lengths of them. What a caller of the package gives becomes such an array or bytes in
+`_numbers`, `_texts` and `_metadata`.
 """
 
 from __future__ import annotations
@@ -17,20 +17,20 @@ import numpy.typing as npt
 
 from . import _processor
 
-# The version of zarrs_chunks.h that the calls below are those of.
+# The version of zarrs_chunks.h that has the calls below.
 VERSION = 3
 
 OK, OUT_OF_MEMORY, WRONG_LENGTH, NOT_JSON, NOT_METADATA, REFUSED, NOT_A_BOX, WRONG_OFFSETS, SHORT_BUFFER, NOT_PREPARED = range(0, -10, -1)
 
 
 class _Array:
-    """The type in C of an array's pointer: ctypes makes it by `from_param`, and of nothing but an array that is fit."""
+    """The type in C of an array's pointer. ctypes makes it by `from_param`, and only of an array that is fit."""
 
     def __init__(self, kind: npt.DTypeLike, is_written: bool) -> None:
         self.kind, self.is_written = np.dtype(kind), is_written
 
     def is_fit(self, array: Any) -> bool:
-        """Whether the library may read an array, or write to it: then it is one that `room` or `text_room` made, whole."""
+        """Whether the library may read an array, or write to it. If it may write, the array is one that `room` or `text_room` made, whole."""
         if type(array) is not np.ndarray or array.dtype != self.kind:
             return False
         flags = array.flags
@@ -55,7 +55,7 @@ _PREPARED: dict[str, Any] = {"numbers": NUMBERS}
 
 
 def _struct(**kinds: Any) -> Any:
-    """A struct of the header: of an array it has the pointer and the length, and else a number, which a call tells."""
+    """A struct of the header. It has the pointer and the length of an array; any other field is a number, which a call writes."""
     fields: list[Any] = []
     for name, kind in kinds.items():
         fields += [(name, ctypes.c_void_p), (f"{name}_len", ctypes.c_size_t)] if len(kind) == 2 else [(name, *kind)]
@@ -71,7 +71,7 @@ PartBuffers = _struct(
 STORED_ARRAY, ELEMENT_BOX, PART_BUFFERS = ((ctypes.POINTER(struct),) for struct in (StoredArray, ElementBox, PartBuffers))
 _STRUCTS = {STORED_ARRAY: StoredArray, ELEMENT_BOX: ElementBox, PART_BUFFERS: PartBuffers}
 
-# The calls of zarrs_chunks.h, with the names and the order of their arguments there. Each answers a code, and the first one the version.
+# The calls of zarrs_chunks.h, with the names and the order of their arguments there. Each returns a code, and the first one the version.
 CALLS: dict[str, dict[str, Any]] = {
     "zarrs_abi_version": {},
     "zarrs_version": {"version": WRITTEN_BYTES, "needed": TOLD_SIZE},
@@ -100,7 +100,7 @@ CALLS: dict[str, dict[str, Any]] = {
     "zarrs_code_words": {"code": CODE, "words": WRITTEN_BYTES, "needed": TOLD_SIZE},
 }  # fmt: skip
 
-# What each call, and each struct, is given, by name: all but the numbers that are told.
+# What each call, and each struct, is given, by name: all but the numbers that a call writes.
 _GIVEN_TO: dict[Any, set[str]] = {name: {argument for argument, kind in kinds.items() if kind is not TOLD_SIZE} for name, kinds in CALLS.items()}
 _GIVEN_TO |= {struct: {field for field, kind in struct.KINDS.items() if len(kind) == 2} for struct in _STRUCTS.values()}
 
@@ -136,19 +136,19 @@ _LIBRARY, _FUNCTIONS = _load()
 
 
 def function(name: str, kinds: list[Any] | None = None) -> Any:
-    """A call of the library that takes other types of C than those that `call` passes, or with no types any. What it is given isn't tested."""
+    """A call of the library that takes other types of C than `call` passes, or any types if `kinds` is None. What it is given isn't tested."""
     found: Any = _LIBRARY[name]
     found.argtypes, found.restype = kinds, ctypes.c_int32
     return found
 
 
 def room(shape: int | tuple[int, ...], kind: npt.DTypeLike = np.uint64) -> npt.NDArray[Any]:
-    """A new array of zeros, which a call may write to. Raises MemoryError where there is no room for it."""
+    """A new array of zeros, which a call may write to. Raises MemoryError if there is no room for it."""
     return _new(np.zeros, shape, kind)
 
 
 def room_for_all(shape: int | tuple[int, ...]) -> npt.NDArray[Any]:
-    """A new array of numbers that hold anything, for answers that are written or set to 0 one and all. A call fills it sooner than one of `room`."""
+    """A new array of numbers that hold anything, for answers of which each is written or set to 0. A call fills it sooner than one of `room`."""
     return _new(np.empty, shape, np.uint64)
 
 
@@ -166,8 +166,8 @@ def _new(make: Any, shape: int | tuple[int, ...], kind: npt.DTypeLike) -> npt.ND
 
 
 def call(name: str, **arguments: Any) -> tuple[int, dict[str, int]]:
-    """Makes a call, with its arguments by the names of zarrs_chunks.h, a struct as a dict of its arrays. Those by which it tells a number aren't
-    given. Answers the code and, by name, the numbers that it told."""
+    """Makes a call, with its arguments by the names of zarrs_chunks.h, a struct as a dict of its arrays. Arguments to which it writes a number aren't
+    given. Returns the code and, by name, the numbers that it wrote."""
     _check_names(name, name, arguments)
     sizes: dict[str, Any] = {}
     structs: list[Any] = []
@@ -204,7 +204,7 @@ def _check_names(what: str, named: Any, arguments: dict[str, Any]) -> None:
 
 
 def _passed(argument: str, kind: Any, value: Any) -> list[Any]:
-    """An argument as it is passed. Raises TypeError where it isn't fit for the library."""
+    """An argument as it is passed. Raises TypeError if it isn't fit for the library."""
     if kind is NUMBER or kind is SIZE:
         if type(value) is int and 0 <= value < 2**64:
             return [value]

@@ -18,8 +18,8 @@ _MOST_ITEMS = 2**22
 
 
 class Metadata:
-    """The metadata of a grid or of an encoding: a name, or an object with a name and, perhaps, a configuration. Its JSON text is kept, so what
-    becomes of the object that was given doesn't matter."""
+    """The metadata of a grid or of an encoding: a name, or an object with a name and, perhaps, a configuration. Its JSON text is kept, so
+    later changes of the object that was given don't matter."""
 
     def __init__(self, argument: str, given: Any) -> None:
         self.text = json_text(argument, given)
@@ -33,7 +33,7 @@ class Metadata:
         return str(value if isinstance(value, str) else value["name"])
 
     def configuration(self) -> dict[str, Any] | None:
-        """The configuration as a new `dict`, or None where there is none."""
+        """The configuration as a new `dict`, or None if there is no configuration."""
         value = self.value()
         return None if isinstance(value, str) else value.get("configuration")
 
@@ -44,8 +44,8 @@ class Metadata:
 
 def json_text(argument: str, given: Any) -> bytes:
     """Compact JSON, as bytes, of dicts, lists, tuples, arrays, texts, numbers, truth values and None. Raises TypeError for what JSON has no form
-    for, and ValueError for a value that it can't say: a float that is no number, a text with half a surrogate pair, a nesting without end or of
-    more items than 4194304.
+    for. Raises ValueError for a value that JSON can't say. This is a float that is no number, a text with half a surrogate pair, or a nesting without
+    end or of more items than 4194304.
 
     >>> json_text("chunk_grid", {"chunk_shape": (np.int64(2), 3)})
     b'{"chunk_shape":[2,3]}'
@@ -58,8 +58,8 @@ def json_text(argument: str, given: Any) -> bytes:
 
 
 class _Plain:
-    """Makes of a value one of plain dicts, lists, texts and numbers, which are all new, of at most `_MOST_ITEMS` items in all. A list that is in
-    another one many times counts as often, since it is written as often."""
+    """Makes plain dicts, lists, texts and numbers of a value. They are all new, and have at most `_MOST_ITEMS` items in all. A list that is in another
+    one many times counts as often, since it is written as often."""
 
     def __init__(self) -> None:
         self.left = _MOST_ITEMS

@@ -11,7 +11,7 @@ import numpy.typing as npt
 
 from ._reading import reading
 
-# What a batch answers: lists of numbers, and marks that tell which of them there are.
+# What a batch answers: lists of numbers, and marks that say which of them there are.
 Numbers = npt.NDArray[np.uint64]
 Marks = npt.NDArray[np.bool_]
 
@@ -35,8 +35,8 @@ def whole_number(argument: str, value: Any) -> int:
 
 
 def numbers(argument: str, values: Any) -> Numbers:
-    """Whole numbers as an array that the library reads: `uint64`, contiguous and aligned. It shares the memory of `values` where that is such an
-    array, and else is a copy. An array without items may be of any type; one of floats or of truth values is refused.
+    """Whole numbers as an array that the library reads: `uint64`, contiguous and aligned. It shares the memory of `values` if that is such an
+    array, and is a copy if not. An array without items may be of any type; one of floats or of truth values is refused.
 
     >>> numbers("indices", [np.uint64(1), 2])
     array([1, 2], dtype=uint64)
@@ -67,7 +67,7 @@ def numbers(argument: str, values: Any) -> Numbers:
 
 
 def lists_of_numbers(argument: str, values: Any, dimensionality: int) -> Numbers:
-    """The same of lists with a number for each dimension, which are the last axis."""
+    """The same for lists with a number for each dimension, which are the last axis."""
     array = numbers(argument, values)
     shape = array.shape
     if not shape or shape[-1] != dimensionality:
@@ -110,7 +110,7 @@ def _whole_item(item: Any, found_type: np.dtype[Any]) -> int:
 
 
 def longest_level(shape: tuple[int, ...]) -> int:
-    """How many lists an array of this shape becomes along its longest level, which may be many where it has no items.
+    """How many lists an array of this shape becomes along its longest level. They may be many even if it has no items.
 
     >>> longest_level((1000, 0, 3))
     1000
@@ -119,7 +119,7 @@ def longest_level(shape: tuple[int, ...]) -> int:
 
 
 def index_of(value: Any) -> int:
-    """An int itself, and none of a class that is derived of it and compares otherwise."""
+    """A plain int, and not one of a derived class that compares otherwise."""
     if isinstance(value, np.bool_):
         raise TypeError("a truth value of numpy's is no whole number")
     return int.__index__(operator.index(value))

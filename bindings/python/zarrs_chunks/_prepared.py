@@ -1,6 +1,6 @@
 """Grids and encodings as numbers, by which the library answers without reading their metadata again.
 
-The calls of a grid are made in as few steps as Python takes for them: most of the time of a call with one list is spent on passing its arguments.
+The calls of a grid are made in as few steps as Python takes for them. Most of the time of a call with one list is spent on passing its arguments.
 """
 
 from __future__ import annotations
@@ -37,15 +37,15 @@ _USUAL_KEY: Any = ctypes.c_char * 128
 _OFFSETS: Any = _NUMBER * 2
 _USUAL_SIZE, _TWO = _SIZE(128), _SIZE(2)
 
-# Bytes lie so far behind the beginning of their object, which is aligned for every type. In CPython they are aligned for numbers, too.
+# Bytes lie at this offset from the beginning of their object, which is aligned for every type. In CPython they are aligned for numbers, too.
 _ARE_BYTES_ALIGNED = (bytes.__basicsize__ - 1) % ctypes.alignment(_NUMBER) == 0
 
-# From how many numbers on an answer is left as it was allocated, until it is known which lists have none.
+# An answer with this many numbers or more is left as it was allocated, until it is known which lists have no answer.
 _MANY = 2**12
 
 
 def prepared(kind: str, length: int, **metadata: Any) -> Numbers:
-    """The numbers of a grid or an encoding, which seldom are more than so many. Raises what the library refuses."""
+    """The numbers of a grid or an encoding, which are seldom more than `length`. Raises what the library refuses."""
     code = _library.SHORT_BUFFER
     while code == _library.SHORT_BUFFER:
         numbers = _library.room(length)
@@ -83,8 +83,8 @@ class PreparedGrid:
     def ask(self, name: str, count: Literal[2], lists: Numbers, shapes: Numbers | None = None) -> tuple[Numbers, Numbers, Marks]: ...
 
     def ask(self, name: str, count: int, lists: Numbers, shapes: Numbers | None = None) -> Any:
-        """What a call answers of lists of numbers, which `lists_of_numbers` made, and of boxes their shapes beside: so many arrays in the form of the
-        lists, one or two, and the marks."""
+        """What a call answers of lists of numbers, which `lists_of_numbers` made. A call of boxes takes their shapes, too. The answer is `count` arrays
+        in the form of the lists, one or two, and the marks."""
         few = _few_lists(lists.shape)
         if few is None:
             return self._ask_many(name, count, [lists] if shapes is None else [lists, shapes])
@@ -113,7 +113,7 @@ class PreparedGrid:
         return answers
 
     def _ask_many(self, name: str, count: int, asked: list[Numbers]) -> Any:
-        """The same of any number of lists."""
+        """The same for any number of lists."""
         shape, size = asked[0].shape, asked[0].size
         is_long = size >= _MANY
         found = _library.room(shape[:-1], np.bool_)
@@ -137,12 +137,12 @@ class PreparedEncoding:
     __slots__ = ("_pointer", "_size", "numbers")
 
     def __init__(self, chunk_key_encoding: bytes) -> None:
-        # A suffix has a number for each byte besides.
+        # A suffix takes a number more for each byte.
         self.numbers = prepared("encoding", 3, chunk_key_encoding=chunk_key_encoding)
         self._pointer, self._size = self.numbers.ctypes.data_as(ctypes.POINTER(_NUMBER)), _SIZE(self.numbers.size)
 
     def key(self, chunk: Numbers) -> str | None:
-        """The key of a chunk, where it is found at once; None where it has to be asked for as those of many chunks are."""
+        """The key of a chunk, if it is found at once; None if it must be asked for as the keys of many chunks are."""
         few = _few_lists(chunk.shape)
         if few is None:
             return None
@@ -153,8 +153,8 @@ class PreparedEncoding:
 
 @functools.lru_cache(maxsize=256)
 def _few_lists(shape: tuple[int, ...]) -> Any:
-    """What a call takes for lists in an array of this shape: the types of a list's room and of the marks', how many numbers they are, and the form of
-    the marks. None where there are many lists, or none, or where the lists can't be passed as bytes."""
+    """What a call takes for lists in an array of this shape. It is the types of the room for lists and for marks, how many items each has, and the form
+    of the marks. None if there are many lists, or no lists, or if the lists can't be passed as bytes."""
     size, count = math.prod(shape), math.prod(shape[:-1])
     is_few = _ARE_BYTES_ALIGNED and 0 < size < _MANY
     return (_NUMBER * size, _SIZE(size), _MARK * count, _SIZE(count), shape[:-1]) if is_few else None

@@ -1,17 +1,17 @@
-"""What the shared library wants of the processor."""
+"""What the shared library needs of the processor."""
 
 from __future__ import annotations
 
 import pathlib
 import platform
 
-# Beyond those of every x86-64 processor, by their names in Linux's /proc/cpuinfo: those of x86-64-v2.
+# What x86-64-v2 has beyond every x86-64 processor, by the names in Linux's /proc/cpuinfo.
 _WANTED = {"cx16", "lahf_lm", "popcnt", "sse4_1", "sse4_2", "ssse3"}
 
 
 def fault(machine: str, cpuinfo: str) -> str | None:
-    """Why a processor can't run the library, or None where nothing is known against it. `machine` is its name, and `cpuinfo` the text of
-    /proc/cpuinfo; each is empty where it isn't known.
+    """Why a processor can't run the library, or None if nothing is known against it. `machine` is its name, and `cpuinfo` the text of
+    /proc/cpuinfo; each is empty if it isn't known.
 
     >>> fault("aarch64", "")
     'the library is for x86-64 processors, and this one is aarch64'
@@ -29,7 +29,7 @@ def fault(machine: str, cpuinfo: str) -> str | None:
 
 
 def check() -> None:
-    """Raises an ImportError where this processor can't run the library."""
+    """Raises an ImportError if this processor can't run the library."""
     try:
         cpuinfo = pathlib.Path("/proc/cpuinfo").read_text(errors="replace")
     except OSError:

@@ -1,4 +1,4 @@
-"""Questions to the library, and their answers as Python's values. What a call of its own answers isn't asked so."""
+"""Questions to the library, and their answers as Python's values. What a call of its own answers isn't asked this way."""
 
 from __future__ import annotations
 
@@ -8,7 +8,7 @@ from typing import Any
 
 from ._answer import line_of, line_within
 
-# A page of a walk holds at most so many bytes of text, but for one that has a single item; and so many items are asked for at first.
+# How many bytes of text a page of a walk holds at most, except a page with a single item; and how many items are asked for at first.
 _PAGE = 2**18
 _FIRST_ITEMS = 16
 
@@ -44,8 +44,8 @@ def ask(call: str, **members: bytes) -> Any:
 
 
 def walk(call: str, first: int, most: int, **members: bytes) -> Iterator[Any]:
-    """The items of a walk, of which the one with the number `first` is the first, and which are those of at most `most` numbers. They are read page
-    by page, so they take no more memory than a page, or than an item that is longer.
+    """The items of a walk from the one with the number `first` on, for at most `most` numbers. They are read page by page, so they take no more memory
+    than a page, or than an item that is longer.
 
     >>> shape, chunk_grid = b"[9]", b'{"name":"regular","configuration":{"chunk_shape":[2]}}'
     >>> list(walk("iter_chunk_indices", 1, 3, shape=shape, chunk_grid=chunk_grid))

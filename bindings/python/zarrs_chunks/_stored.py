@@ -22,12 +22,12 @@ class ZarrArray(Protocol):
     def chunks(self) -> tuple[int, ...]: ...
 
 
-# Where an array is stored: its folder, or the array itself.
+# The place where an array is stored: its folder, or the array itself.
 Stored = Union[str, os.PathLike[str], ZarrArray]
 
 
 class Description:
-    """Of a stored array, what a `zarr.json` says of it under these names."""
+    """What a `zarr.json` says of a stored array under these names."""
 
     def __init__(self, array: Stored) -> None:
         if isinstance(array, (str, os.PathLike)):
@@ -107,7 +107,7 @@ def _as_format_3(chunks: Any, separator: Any) -> dict[str, Any]:
 
 
 def _of_zarr_array(array: Any) -> dict[str, Any]:
-    """The same of an array of zarr-python 2, which isn't imported: it is known by its attributes."""
+    """The same for an array of zarr-python 2, which isn't imported: it is known by its attributes."""
     with reading("array"):
         try:
             shape, chunks, separator = array.shape, array.chunks, array._dimension_separator

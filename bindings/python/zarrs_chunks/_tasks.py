@@ -88,7 +88,7 @@ def given_order(order: Any) -> str:
     """
     if not isinstance(order, str):
         raise TypeError(f"order: a text is wanted, and not a {type(order).__name__}")
-    # The text itself, and none of a class that is derived of it and compares otherwise.
+    # The text itself, and not one of a derived class that compares otherwise.
     whose = str.__str__(order)
     if whose not in ("target", "source"):
         raise ValueError("order: it is `target` or `source`")
@@ -123,7 +123,7 @@ def ends_of_share(groups: Box, share: tuple[int, int]) -> tuple[int, int]:
 
 
 def groups_of(chunks: Box, each: Sequence[int]) -> Box:
-    """Returns the box of the groups that have some chunk of a box, where each has so many neighbouring chunks. Each group is a task.
+    """Returns the box of the groups that have some chunk of a box. A group is `each` neighbouring chunks along each dimension, and is a task.
 
     >>> groups_of(Box((3,), (4,)), [2])
     Box(start=(1,), shape=(3,))

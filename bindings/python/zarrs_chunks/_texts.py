@@ -45,7 +45,7 @@ def _bytes_of(text: Text) -> bytes:
 
 
 def keys_as_bytes(keys: Iterable[Key]) -> list[bytes]:
-    """Each of some keys, which are `str` or bytes. Raises MemoryError where there are more than `MOST_KEYS`, as of an iterator without end.
+    """Each of some keys, which are `str` or bytes. Raises MemoryError if there are more than `MOST_KEYS`, as from an iterator without end.
 
     >>> keys_as_bytes(["c/1", b"c/2"])
     [b'c/1', b'c/2']
