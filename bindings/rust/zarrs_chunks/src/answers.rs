@@ -1,4 +1,4 @@
-//! Answers that are text: those to any question, and the words of a refusal.
+//! Answers that are text: the answers to any question, and the words of a refusal.
 
 use crate::calls;
 use crate::error::{Error, Result};
@@ -6,20 +6,20 @@ use crate::ffi;
 use crate::library;
 use crate::memory::zeros;
 
-/// The longest text that is asked for, in bytes, and for how long a one there is room at first.
+/// The longest text that is asked for, and the one that there is room for at first, in bytes.
 pub(crate) const LONGEST: usize = 1 << 30;
 pub(crate) const USUAL: usize = 256;
 
-/// The library's answer to any question of `chunkcalls`, as `crates/chunkcalls/CALLING.md` tells
-/// them: what has no method of its own, too.
+/// Returns the library's answer to any question of `chunkcalls`, as `crates/chunkcalls/CALLING.md`
+/// lists them: what has no method of its own, too.
 ///
 /// A question is a JSON object. The answer is compact JSON, or `refused: ` or `unreadable: ` and
 /// why, without a line feed. A walk is best read page by page, by `first` and `items`.
 ///
 /// # Errors
 ///
-/// [`Error::OutOfMemory`]; [`Error::TooLong`] where the answer has more than 1073741824 bytes;
-/// [`Error::WrongVersion`] and [`Error::WrongProcessor`] where the library can't be called.
+/// [`Error::OutOfMemory`]; [`Error::TooLong`] if the answer has more than 1073741824 bytes;
+/// [`Error::WrongVersion`] and [`Error::WrongProcessor`] if the library can't be called.
 ///
 /// # Example
 ///
@@ -36,7 +36,7 @@ pub fn answer(question: &str) -> Result<String> {
     line_within(question, (USUAL, LONGEST))
 }
 
-/// The same, where there is room for so many bytes at first, and for so many at most.
+/// The same, with room for `room.0` bytes at first, and for `room.1` bytes at most.
 pub(crate) fn line_within(question: &str, room: (usize, usize)) -> Result<String> {
     library::check()?;
     let (code, mut line) = text_within(room, |line| calls::answer(question, line))?;
@@ -49,8 +49,8 @@ pub(crate) fn line_within(question: &str, room: (usize, usize)) -> Result<String
     Ok(line)
 }
 
-/// The code of a call that writes a text to a buffer and tells how long it is, and the text. It is
-/// given as much room as it needs.
+/// The code of a call that writes a text to a buffer and returns how long it is, and the text. The
+/// call is given as much room as it needs.
 pub(crate) fn words_of(call: impl FnMut(&mut [u8]) -> (i32, usize)) -> Result<(i32, String)> {
     text_within((USUAL, LONGEST), call)
 }

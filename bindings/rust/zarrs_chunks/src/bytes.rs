@@ -13,18 +13,20 @@ use crate::subset::ArraySubset;
 /// In which order the elements of a chunk are stored.
 #[derive(Debug, Clone, Copy, PartialEq, Eq, Hash)]
 pub enum MemoryOrder {
-    /// Row-major: along the last dimension one element follows another. So the codec `bytes` writes
-    /// a chunk.
+    /// Row-major: along the last dimension one element follows another. The codec `bytes` writes a
+    /// chunk in this order.
     C,
-    /// Column-major: along the first dimension one element follows another. So does `bytes` behind
-    /// the codec `transpose` with all dimensions reversed, and Zarr V2 where `order` is `F`.
+    /// Column-major: along the first dimension one element follows another. The codec
+    /// `bytes` after the codec `transpose` with all dimensions reversed writes a chunk in this
+    /// order, and so does Zarr V2 if `order` is `F`.
     F,
 }
 
 /// Ranges of bytes of one length: [`byte_ranges`] makes them.
 ///
-/// There are as many as the product of `counts`. For each list of numbers `k`, with `k[d]` below
-/// `counts[d]`, one begins at `first` + `k[0]` * `strides[0]` + `k[1]` * `strides[1]` and so on.
+/// Their number is the product of `counts`. For each list of numbers `k`, with `k[d]` below
+/// `counts[d]`, a range begins at `first` + `k[0]` * `strides[0]` + `k[1]` * `strides[1]` and so
+/// on.
 #[derive(Debug, Clone, PartialEq, Eq, Hash)]
 #[non_exhaustive]
 pub struct ByteRanges {
@@ -34,13 +36,14 @@ pub struct ByteRanges {
     pub length: u64,
     /// How many ranges follow one another along each dimension of ranges, the outermost first.
     pub counts: Vec<u64>,
-    /// How many bytes there are from the beginning of one to that of the next along each of them.
+    /// How many bytes there are from the beginning of one range to the beginning of the next along
+    /// each of them.
     pub strides: Vec<u64>,
 }
 
 impl ByteRanges {
-    /// The ranges, one after another: they ascend, and no two can be joined. The first one is made
-    /// at once, however many there are.
+    /// Returns the ranges, one after another: they ascend, and no two can be joined. The first one
+    /// is made at once, however many there are.
     ///
     /// # Errors
     ///
@@ -92,17 +95,17 @@ impl Iterator for Ranges<'_> {
 
 impl FusedIterator for Ranges<'_> {}
 
-/// Which bytes of a chunk's object hold the elements of a box of the chunk, whose indices are
-/// counted from the chunk's first element. The object is the chunk's elements, one behind another
-/// in `order`, each in `item_size` bytes, and nothing else: it isn't compressed.
+/// Returns which bytes of a chunk's object hold the elements of a box of the chunk. The box's
+/// indices are counted from the chunk's first element. The object is the chunk's elements, one
+/// after the other in `order`, each in `item_size` bytes, and nothing else: it isn't compressed.
 ///
-/// What the ranges have, one behind another, are the box's elements in the chunk's order. An empty
-/// box has no range. `None` where the box ends past the chunk, or isn't empty and the object would
-/// be longer than 18446744073709551615 bytes.
+/// The bytes of the ranges, one range after the other, are the box's elements in the chunk's order.
+/// An empty box has no range. `None` if the box ends past the chunk, or if it isn't empty and the
+/// object would be longer than 18446744073709551615 bytes.
 ///
 /// # Errors
 ///
-/// [`Error::Refused`](crate::Error::Refused) where the box has another number of dimensions than
+/// [`Error::Refused`](crate::Error::Refused) if the box has another number of dimensions than
 /// the chunk; else as [`answer`](crate::answer).
 ///
 /// # Example

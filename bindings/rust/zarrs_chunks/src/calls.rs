@@ -1,21 +1,21 @@
 //! The calls of the library over slices, each safe. No other module has an `unsafe` block.
 //!
-//! The header and `bindings/README.md` demand of whoever calls:
+//! The header and `bindings/README.md` demand of a caller:
 //!
 //! - **Items.** A pointer points to as many items as its length says; with 0 items it may be null.
-//!   Every pointer here is that of a slice, with its length. Where a slice is empty, [`given`] and
-//!   [`written`] pass null: that the header allows by name, and of the dangling pointer of an empty
-//!   slice it says nothing. A pointer to one number or to a struct is that of a local variable.
+//!   Every pointer here is a slice's, with its length. If a slice is empty, [`given`] and
+//!   [`written`] pass null. The header allows null by name, and says nothing of the dangling
+//!   pointer of an empty slice. A pointer to one number or to a struct is a local variable's.
 //! - **Alignment.** Buffers are aligned to their type, as slices and variables are.
 //! - **Apart.** What is written to overlaps no other buffer of the call, and no other thread
 //!   touches it until the call returns. It is borrowed mutably for as long, so both hold. What is
 //!   read is borrowed, so nobody changes it meanwhile.
 //!
-//! Besides, of the thread and the process:
+//! They also demand of the thread and the process:
 //!
-//! - A thread that calls has [`STACK`](crate::STACK) bytes of stack. The crate's page hands that on
-//!   to whoever makes threads with less. Where one has too little, the guard page behind its stack
-//!   ends the process.
+//! - A thread that calls has [`STACK`](crate::STACK) bytes of stack. The crate's page passes this
+//!   on to those who make threads with less. If a thread has too little, the guard page behind its
+//!   stack ends the process.
 //! - No call is made from a signal handler or from the forked child of a process with threads, and
 //!   none with traps for floats. Safe Rust can do none of these: what installs handlers, runs code
 //!   in a forked child or sets such traps is `unsafe`, and its caller sees to it.
@@ -55,7 +55,7 @@ pub(crate) fn abi_version() -> i32 {
 /// The code, and how many bytes the version has.
 pub(crate) fn version(version: &mut [u8]) -> (i32, usize) {
     let mut needed = 0;
-    // SAFETY: items and alignment: the pointer is that of a slice, with its length, or null with 0
+    // SAFETY: items and alignment: the pointer is a slice's, with its length, or null with 0
     // items; `needed` is a variable of this function. Apart: both are borrowed mutably.
     let code = unsafe { ffi::zarrs_version(written(version), version.len(), &mut needed) };
     (code, needed)
@@ -64,7 +64,7 @@ pub(crate) fn version(version: &mut [u8]) -> (i32, usize) {
 /// The code, and how many numbers the grid has.
 pub(crate) fn prepare_grid(shape: &[u64], chunk_grid: &str, numbers: &mut [u64]) -> (i32, usize) {
     let mut needed = 0;
-    // SAFETY: items and alignment: each pointer is that of a slice, with its length, or null with 0
+    // SAFETY: items and alignment: each pointer is a slice's, with its length, or null with 0
     // items; `needed` is a variable of this function. Apart: `numbers` and `needed` are borrowed
     // mutably.
     let code = unsafe {
@@ -82,7 +82,7 @@ pub(crate) fn prepare_grid(shape: &[u64], chunk_grid: &str, numbers: &mut [u64])
 }
 
 pub(crate) fn grid_shape(numbers: &[u64], grid_shape: &mut [u64]) -> i32 {
-    // SAFETY: items and alignment: each pointer is that of a slice, with its length, or null with 0
+    // SAFETY: items and alignment: each pointer is a slice's, with its length, or null with 0
     // items. Apart: `grid_shape` is borrowed mutably. Numbers may be any.
     unsafe {
         ffi::zarrs_prepared_grid_shape(
@@ -100,7 +100,7 @@ pub(crate) fn chunk_indices_of(
     chunks: &mut [u64],
     found: &mut [u8],
 ) -> i32 {
-    // SAFETY: items and alignment: each pointer is that of a slice, with its length, or null with 0
+    // SAFETY: items and alignment: each pointer is a slice's, with its length, or null with 0
     // items. Apart: `chunks` and `found` are borrowed mutably. Numbers may be any, and lengths too.
     unsafe {
         ffi::zarrs_prepared_chunk_indices_of(
@@ -123,7 +123,7 @@ pub(crate) fn homes_of(
     places: &mut [u64],
     found: &mut [u8],
 ) -> i32 {
-    // SAFETY: items and alignment: each pointer is that of a slice, with its length, or null with 0
+    // SAFETY: items and alignment: each pointer is a slice's, with its length, or null with 0
     // items. Apart: `chunks`, `places` and `found` are borrowed mutably. Numbers may be any, and
     // lengths too.
     unsafe {
@@ -149,7 +149,7 @@ pub(crate) fn chunk_boxes_of(
     shapes: &mut [u64],
     found: &mut [u8],
 ) -> i32 {
-    // SAFETY: items and alignment: each pointer is that of a slice, with its length, or null with 0
+    // SAFETY: items and alignment: each pointer is a slice's, with its length, or null with 0
     // items. Apart: `origins`, `shapes` and `found` are borrowed mutably. Numbers may be any, and
     // lengths too.
     unsafe {
@@ -168,7 +168,7 @@ pub(crate) fn chunk_boxes_of(
     }
 }
 
-/// The code, and after `NOT_A_BOX` the number of the first box that is none.
+/// The code, and after `NOT_A_BOX` the number of the first invalid box.
 pub(crate) fn covers_of(
     numbers: &[u64],
     [starts, shapes]: [&[u64]; 2],
@@ -177,7 +177,7 @@ pub(crate) fn covers_of(
     found: &mut [u8],
 ) -> (i32, usize) {
     let mut wrong = 0;
-    // SAFETY: items and alignment: each pointer is that of a slice, with its length, or null with 0
+    // SAFETY: items and alignment: each pointer is a slice's, with its length, or null with 0
     // items; `wrong` is a variable of this function. Apart: `first_chunks`, `chunk_counts`, `found`
     // and `wrong` are borrowed mutably. Numbers may be any, and lengths too.
     let code = unsafe {
@@ -203,7 +203,7 @@ pub(crate) fn covers_of(
 /// The code, and how many numbers the encoding has.
 pub(crate) fn prepare_encoding(chunk_key_encoding: &str, numbers: &mut [u64]) -> (i32, usize) {
     let mut needed = 0;
-    // SAFETY: items and alignment: each pointer is that of a slice, with its length, or null with 0
+    // SAFETY: items and alignment: each pointer is a slice's, with its length, or null with 0
     // items; `needed` is a variable of this function. Apart: `numbers` and `needed` are borrowed
     // mutably.
     let code = unsafe {
@@ -227,7 +227,7 @@ pub(crate) fn keys_of(
     offsets: &mut [u64],
 ) -> (i32, usize) {
     let mut needed = 0;
-    // SAFETY: items and alignment: each pointer is that of a slice, with its length, or null with 0
+    // SAFETY: items and alignment: each pointer is a slice's, with its length, or null with 0
     // items; `needed` is a variable of this function. Apart: `text`, `offsets` and `needed` are
     // borrowed mutably. Numbers may be any, and lengths too.
     let code = unsafe {
@@ -257,7 +257,7 @@ pub(crate) fn chunks_of_keys(
     found: &mut [u8],
 ) -> (i32, usize) {
     let mut wrong = 0;
-    // SAFETY: items and alignment: each pointer is that of a slice, with its length, or null with 0
+    // SAFETY: items and alignment: each pointer is a slice's, with its length, or null with 0
     // items; `wrong` is a variable of this function. Apart: `chunks`, `found` and `wrong` are
     // borrowed mutably. Numbers and offsets may be any, and lengths too.
     let code = unsafe {
@@ -296,8 +296,8 @@ pub(crate) struct PartBuffers<'a> {
     pub(crate) offsets: &'a mut [u64],
 }
 
-/// What is told of the parts of a plan: how many bytes the keys have, how many parts are written,
-/// how many the plan has, and whether there is a plan.
+/// What a call says of the parts of a plan. It is how many bytes the keys have, how many parts are
+/// written, how many the plan has, and whether there is a plan.
 pub(crate) struct PartsTold {
     pub(crate) needed: usize,
     pub(crate) count: usize,
@@ -344,7 +344,7 @@ pub(crate) fn parts_of(
         found: 0,
     };
     // SAFETY: items and alignment: the structs are variables of this function, and each pointer in
-    // them is that of a slice, with its length, or null with 0 items. Apart: the slices of `told`
+    // them is a slice's, with its length, or null with 0 items. Apart: the slices of `told`
     // come from `buffers`, which borrows each of them mutably until this function returns. Lengths
     // may be any.
     let code = unsafe { ffi::zarrs_parts_of(&stored, &elements, first, &mut told) };
@@ -360,7 +360,7 @@ pub(crate) fn parts_of(
 /// The code, and how many bytes the line has.
 pub(crate) fn answer(question: &str, line: &mut [u8]) -> (i32, usize) {
     let mut needed = 0;
-    // SAFETY: items and alignment: each pointer is that of a slice, with its length, or null with 0
+    // SAFETY: items and alignment: each pointer is a slice's, with its length, or null with 0
     // items; `needed` is a variable of this function. Apart: `line` and `needed` are borrowed
     // mutably.
     let code = unsafe {
@@ -378,7 +378,7 @@ pub(crate) fn answer(question: &str, line: &mut [u8]) -> (i32, usize) {
 /// The code of the fault, and how many bytes its words have.
 pub(crate) fn grid_fault(shape: &[u64], chunk_grid: &str, words: &mut [u8]) -> (i32, usize) {
     let mut needed = 0;
-    // SAFETY: items and alignment: each pointer is that of a slice, with its length, or null with 0
+    // SAFETY: items and alignment: each pointer is a slice's, with its length, or null with 0
     // items; `needed` is a variable of this function. Apart: `words` and `needed` are borrowed
     // mutably.
     let code = unsafe {
@@ -398,7 +398,7 @@ pub(crate) fn grid_fault(shape: &[u64], chunk_grid: &str, words: &mut [u8]) -> (
 /// The code of the fault, and how many bytes its words have.
 pub(crate) fn encoding_fault(chunk_key_encoding: &str, words: &mut [u8]) -> (i32, usize) {
     let mut needed = 0;
-    // SAFETY: items and alignment: each pointer is that of a slice, with its length, or null with 0
+    // SAFETY: items and alignment: each pointer is a slice's, with its length, or null with 0
     // items; `needed` is a variable of this function. Apart: `words` and `needed` are borrowed
     // mutably.
     let code = unsafe {
@@ -416,7 +416,7 @@ pub(crate) fn encoding_fault(chunk_key_encoding: &str, words: &mut [u8]) -> (i32
 /// The code of this call, and how many bytes the words have.
 pub(crate) fn code_words(code: i32, words: &mut [u8]) -> (i32, usize) {
     let mut needed = 0;
-    // SAFETY: items and alignment: the pointer is that of a slice, with its length, or null with 0
+    // SAFETY: items and alignment: the pointer is a slice's, with its length, or null with 0
     // items; `needed` is a variable of this function. Apart: `words` and `needed` are borrowed
     // mutably. The code may be any number.
     let ended = unsafe { ffi::zarrs_code_words(code, written(words), words.len(), &mut needed) };

@@ -12,8 +12,8 @@ use crate::memory::{append, text_of, zeros};
 
 /// A chunk key encoding: under which key each chunk of an array is stored.
 ///
-/// An encoding prepares itself once, as numbers: so no call reads JSON, but for each page of a
-/// plan. It never changes, and any number of threads may ask it at once. Two are equal that were
+/// An encoding prepares itself once, as numbers. So no call reads JSON, except for each page of a
+/// plan. It never changes, and any number of threads may ask it at once. Two are equal if they were
 /// made of the same text.
 ///
 /// # Example
@@ -40,7 +40,7 @@ impl Encoding {
     /// # Errors
     ///
     /// [`Error::NotJson`], [`Error::NotMetadata`] and [`Error::Refused`] with the library's words;
-    /// [`Error::OutOfMemory`]; [`Error::WrongVersion`] and [`Error::WrongProcessor`] where the
+    /// [`Error::OutOfMemory`]; [`Error::WrongVersion`] and [`Error::WrongProcessor`] if the
     /// library can't be called.
     ///
     /// # Example
@@ -55,7 +55,7 @@ impl Encoding {
     /// ```
     pub fn new(chunk_key_encoding: &str) -> Result<Encoding> {
         library::check()?;
-        // A suffix has a number for each byte besides.
+        // A suffix takes a number more for each byte.
         let mut numbers = zeros(3)?;
         let (mut code, mut needed) = calls::prepare_encoding(chunk_key_encoding, &mut numbers);
         if code == ffi::SHORT_BUFFER {
@@ -103,12 +103,12 @@ impl Encoding {
         Ok(self.encode_all(1, chunk)?.into_text())
     }
 
-    /// The keys of so many chunks, whose numbers stand one after another in `chunks`, without
-    /// anything between two. Each has as many dimensions as the others.
+    /// Returns the keys of `count` chunks, whose numbers come one after another in `chunks`,
+    /// without anything between two. Each chunk has as many dimensions as the others.
     ///
     /// # Errors
     ///
-    /// [`Error::WrongLength`] where `chunks` has not as many numbers for one chunk as for another;
+    /// [`Error::WrongLength`] if `chunks` hasn't as many numbers for one chunk as for another;
     /// [`Error::OutOfMemory`].
     ///
     /// # Example
@@ -141,8 +141,8 @@ impl Encoding {
         Keys::new(text, offsets)
     }
 
-    /// The chunk with so many numbers whose key a text is; `None` where it is the key of no such
-    /// chunk. The chunk may lie outside of the grid.
+    /// Returns the chunk with `dimensionality` numbers that has this key; `None` if no such chunk
+    /// has it. The chunk may lie outside of the grid.
     ///
     /// # Errors
     ///
@@ -165,15 +165,16 @@ impl Encoding {
         Ok(is_found.then_some(chunk))
     }
 
-    /// The chunk of each key: `chunks` gets the numbers of all chunks, one after another, and
-    /// `found` has `true` where a text is the key of a chunk with so many numbers. Where it is the
-    /// key of none, its numbers stay as they were. After an error both hold anything.
+    /// Writes the chunk of each key. `chunks` gets the numbers of all chunks, one after another.
+    /// `found` gets `true` if the text is the key of a chunk with `dimensionality` numbers, and
+    /// `false` if not; then the numbers of its chunk stay as they were. After an error both hold
+    /// anything.
     ///
     /// A key is a `&str`, a `String` or bytes, as a listing of a store gives them.
     ///
     /// # Errors
     ///
-    /// [`Error::WrongLength`] where `found` has not an item for each key, or `chunks` not
+    /// [`Error::WrongLength`] if `found` hasn't an item for each key, or `chunks` hasn't
     /// `dimensionality` numbers; [`Error::OutOfMemory`].
     ///
     /// # Example
@@ -206,12 +207,12 @@ impl Encoding {
         self.decode_text(&text, &offsets, dimensionality, chunks, found)
     }
 
-    /// The same of keys that stand one after another in one text, as [`Keys`] has them: `offsets`
+    /// Does the same for keys that follow one another in one text, as [`Keys`] has them. `offsets`
     /// says where each begins, in bytes, and at last where the last one ends.
     ///
     /// # Errors
     ///
-    /// [`Error::WrongOffsets`] where offsets descend or lie past the text; those of
+    /// [`Error::WrongOffsets`] if offsets descend or lie past the text; the errors of
     /// [`decode_all`](Encoding::decode_all).
     ///
     /// # Example

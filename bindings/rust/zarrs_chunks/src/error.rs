@@ -23,8 +23,8 @@ pub type Result<T> = std::result::Result<T, Error>;
 
 /// Why a call has no answer.
 ///
-/// That there is none by the rules of Zarr is no error: an element that lies in no chunk is
-/// answered by `None`, or in a batch by `false`.
+/// It is no error if the rules of Zarr give no answer: for an element that lies in no chunk a call
+/// answers `None`, or in a batch `false`.
 ///
 /// # Example
 ///
@@ -50,10 +50,10 @@ pub enum Error {
         argument: &'static str,
         /// How many items it has.
         given: usize,
-        /// How many items it is to have.
+        /// How many items it must have.
         wanted: usize,
     },
-    /// The metadata is no JSON.
+    /// The metadata isn't JSON.
     NotJson {
         /// The library's words.
         words: String,
@@ -68,7 +68,7 @@ pub enum Error {
         /// The library's words.
         words: String,
     },
-    /// A start and a shape are those of no box: it ends past 18446744073709551615.
+    /// A start and a shape make no box: it ends past 18446744073709551615.
     NotABox {
         /// The number of the first such box of the call, counted from 0.
         which: usize,
@@ -85,7 +85,7 @@ pub enum Error {
     },
     /// The library that is linked has another version of the calls than this crate.
     WrongVersion {
-        /// The version of the library. That of the crate is [`ABI_VERSION`](crate::ABI_VERSION).
+        /// The version of the library. The crate's is [`ABI_VERSION`](crate::ABI_VERSION).
         found: i32,
     },
     /// The processor is too old for the library, which is built for x86-64-v2.
@@ -93,9 +93,9 @@ pub enum Error {
         /// What the processor lacks.
         missing: &'static str,
     },
-    /// The library ended with a code, or told something, that its header rules out here.
+    /// The library ended with a code, or answered something, that its header rules out here.
     Unexpected {
-        /// The code of `zarrs_chunks.h`; 0 where the call answered, but not as the header says.
+        /// The code of `zarrs_chunks.h`; 0 if the call answered, but not as the header says.
         code: i32,
         /// What is wrong: the library's words for the code, or the answer.
         words: String,
@@ -103,11 +103,11 @@ pub enum Error {
 }
 
 impl Error {
-    /// The error of a code that no other variant tells, with the library's words.
+    /// The error of a code that no other variant stands for, with the library's words.
     pub(crate) fn of_code(code: i32) -> Error {
         match code {
             ffi::OUT_OF_MEMORY => Error::OutOfMemory,
-            // Each call tells the codes that it may end with before. So this is one of
+            // Each call handles the codes that it may end with before. So this is one of
             // ZARRS_WRONG_LENGTH, ZARRS_SHORT_BUFFER and ZARRS_NOT_PREPARED, though lengths and
             // numbers are right; or one that the call doesn't end with.
             _ => match words_of(|words| calls::code_words(code, words)) {
@@ -118,7 +118,7 @@ impl Error {
     }
 
     /// The error of a call that reads metadata, by its code. The library's words are asked for
-    /// where the code is one of metadata.
+    /// if the code is one of metadata.
     pub(crate) fn of_metadata(code: i32, fault: impl FnMut(&mut [u8]) -> (i32, usize)) -> Error {
         if ![ffi::NOT_JSON, ffi::NOT_METADATA, ffi::REFUSED].contains(&code) {
             return Error::of_code(code);
@@ -207,13 +207,13 @@ mod tests {
         for (code, words) in told {
             let unexpected = Error::Unexpected { code, words: words.to_owned() };
             assert_eq!(Error::of_code(code), unexpected);
-            // Of metadata three codes have words of their own.
+            // Three codes of metadata have words of their own.
             if !(-5..=-3).contains(&code) {
                 assert_eq!(Error::of_metadata(code, |_| panic!("asked for words")), unexpected);
             }
         }
         assert_eq!(Error::of_metadata(-1, |_| (-5, 0)), Error::OutOfMemory);
-        // The words are those of the fault that is found, and a second call finds the same.
+        // The words are the words of the fault that is found, and a second call finds the same.
         let told = |code| {
             Error::of_metadata(code, |words| {
                 words[..3].copy_from_slice(b"why");

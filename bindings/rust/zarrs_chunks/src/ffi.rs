@@ -1,7 +1,7 @@
 //! What this crate uses of `zarrs_chunks.h`, in the order of the header, which says what each call
 //! takes and writes. An array is a pointer and the number of its items.
 
-/// The version of the header that these declarations are those of.
+/// The version of the header that has these declarations.
 pub(crate) const ABI_VERSION: i32 = 3;
 /// How many bytes of stack a call needs at most.
 pub(crate) const STACK: usize = 163_840;

@@ -22,23 +22,23 @@ use crate::walks::{ChunkIndices, ChunkIndicesAndSubsets, ChunkSubsets};
 /// Sizes, indices, origins, shapes and places count elements. Chunks are numbered from 0 along each
 /// dimension. All numbers go from 0 to 18446744073709551615, and no sum or product wraps.
 ///
-/// A grid prepares itself once, as numbers: so no call reads JSON, but for each page of a plan, of
-/// tasks or of a walk, and for [questions](Grid#questions). It never changes, and any number
-/// of threads may ask it at once. Two are equal that were made of the same shape and the same text.
+/// A grid prepares itself once, as numbers. So no call reads JSON, except for each page of a plan,
+/// of tasks or of a walk, and for [questions](Grid#questions). It never changes, and any number of
+/// threads may ask it at once. Two are equal if they were made of the same shape and the same text.
 ///
 /// # Batches
 ///
-/// A batch asks many lists at once. They stand one after another in one slice, without anything
-/// between two. How many lists there are is told by the length of `found`; each other slice has
-/// as many numbers for each list as the grid has dimensions. In `found` a list has `true` where
-/// there is an answer to it. Where there is none, its numbers in the answer's slices stay as they
-/// were. After an error these slices hold anything.
+/// A batch asks many lists at once. They follow one another in one slice, without anything between
+/// two. The length of `found` is the number of lists. Each other slice has a number for each list
+/// and each dimension of the grid. In `found` a list has `true` if there is an answer to it. If
+/// there is no answer, its numbers in the answer's slices stay as they were. After an error these
+/// slices hold anything.
 ///
 /// # Questions
 ///
 /// A few methods ask as [`answer`](crate::answer) does, by a question that has the grid's text.
-/// So they make the grid anew: of a grid with very many listed edges that takes milliseconds. Where
-/// the text nests 127 deep, it is one deeper in a question than JSON is read, and the error is
+/// So they make the grid again, which takes milliseconds if it has very many listed edges. If the
+/// text nests 127 deep, it is one deeper in a question than JSON is read, and the error is
 /// [`Error::Refused`].
 ///
 /// # Example
@@ -62,8 +62,8 @@ pub struct Grid {
     grid_shape: Vec<u64>,
 }
 
-/// Where an element lies: in which chunk, and where in it. Both lists have a number for each
-/// dimension. [`Grid::find_home`] makes it.
+/// The place of an element: in which chunk it lies, and where in it. Both lists have a number for
+/// each dimension. [`Grid::find_home`] makes it.
 ///
 /// # Example
 ///
@@ -84,8 +84,8 @@ pub struct Home {
     pub place: Vec<u64>,
 }
 
-/// Where an element is stored: in which chunk, where in it, and under which key. Both lists have a
-/// number for each dimension. [`Grid::locate`] makes it.
+/// The place where an element is stored: in which chunk, where in it, and under which key. Both
+/// lists have a number for each dimension. [`Grid::locate`] makes it.
 ///
 /// # Example
 ///
@@ -126,7 +126,7 @@ pub struct Located {
 #[derive(Debug, Clone, PartialEq, Eq, Hash)]
 #[non_exhaustive]
 pub struct Counted {
-    /// The chunk; `None` where no chunk holds the element.
+    /// The chunk; `None` if no chunk holds the element.
     pub chunk: Option<Vec<u64>>,
     /// How many comparisons the look-up makes.
     pub comparisons: u64,
@@ -139,7 +139,7 @@ impl Grid {
     /// # Errors
     ///
     /// [`Error::NotJson`], [`Error::NotMetadata`] and [`Error::Refused`] with the library's words;
-    /// [`Error::OutOfMemory`]; [`Error::WrongVersion`] and [`Error::WrongProcessor`] where the
+    /// [`Error::OutOfMemory`]; [`Error::WrongVersion`] and [`Error::WrongProcessor`] if the
     /// library can't be called.
     ///
     /// # Example
@@ -241,11 +241,11 @@ impl Grid {
         &self.chunk_grid
     }
 
-    /// The chunk that holds an element; `None` where no chunk does.
+    /// The chunk that holds an element; `None` if no chunk does.
     ///
     /// # Errors
     ///
-    /// [`Error::WrongLength`] where the index has not one number for each dimension;
+    /// [`Error::WrongLength`] if the index has not one number for each dimension;
     /// [`Error::OutOfMemory`].
     ///
     /// # Example
@@ -266,7 +266,7 @@ impl Grid {
     }
 
     /// The place of an element in the chunk that holds it, counted from the chunk's first element;
-    /// `None` where no chunk does.
+    /// `None` if no chunk does.
     ///
     /// # Errors
     ///
@@ -286,7 +286,7 @@ impl Grid {
         Ok(self.find_home(indices)?.map(|home| home.place))
     }
 
-    /// The chunk that holds an element, and the element's place there; `None` where no chunk does.
+    /// The chunk that holds an element, and the element's place there; `None` if no chunk does.
     ///
     /// # Errors
     ///
@@ -310,8 +310,8 @@ impl Grid {
         Ok(is_found(found).then_some(Home { chunk, place }))
     }
 
-    /// Where an element is stored: its chunk, its place there, and the chunk's key; `None` where no
-    /// chunk holds it.
+    /// Returns where an element is stored: its chunk, its place there, and the chunk's key; `None`
+    /// if no chunk holds it.
     ///
     /// # Errors
     ///
@@ -336,12 +336,12 @@ impl Grid {
         located.transpose()
     }
 
-    /// The chunk that holds an element of a `rectilinear` grid, and how many comparisons it takes
-    /// to look it up. It is [a question](Grid#questions).
+    /// Returns the chunk that holds an element of a `rectilinear` grid, and how many comparisons it
+    /// takes to look it up. It is [a question](Grid#questions).
     ///
     /// # Errors
     ///
-    /// [`Error::Refused`] where the grid has another name; those of
+    /// [`Error::Refused`] if the grid has another name; the errors of
     /// [`chunk_indices`](Grid::chunk_indices).
     ///
     /// # Example
@@ -367,10 +367,9 @@ impl Grid {
         })
     }
 
-    /// Whether an element lies in the array: below its size along each dimension. Along a dimension
-    /// of size 0 all do, and where edges are listed there, those that lie in a chunk. A list that
-    /// has not one number for each dimension is none of an element. It is
-    /// [a question](Grid#questions).
+    /// Returns whether an element lies in the array: below its size along each dimension. Along a
+    /// dimension of size 0 all do, or if its edges are listed, those that lie in a chunk. A list
+    /// without one number for each dimension isn't an element. It is [a question](Grid#questions).
     ///
     /// # Errors
     ///
@@ -392,12 +391,12 @@ impl Grid {
         questions::ask(self, "array_indices_inbounds", &members, |reader| reader.truth())
     }
 
-    /// The box of a chunk, in elements; `None` where there is no such chunk, or it ends past
+    /// Returns the box of a chunk, in elements; `None` if there is no such chunk, or it ends past
     /// 18446744073709551615.
     ///
     /// # Errors
     ///
-    /// [`Error::WrongLength`] where the chunk has not one number for each dimension;
+    /// [`Error::WrongLength`] if the chunk has not one number for each dimension;
     /// [`Error::OutOfMemory`].
     ///
     /// # Example
@@ -418,8 +417,8 @@ impl Grid {
         is_found(found).then(|| ArraySubset::of_answer(start, shape)).transpose()
     }
 
-    /// How many elements a chunk has along each dimension; `None` where there is no such chunk. Of
-    /// a chunk without a box it is [a question](Grid#questions).
+    /// Returns how many elements a chunk has along each dimension; `None` if there is no such
+    /// chunk. For a chunk without a box it is [a question](Grid#questions).
     ///
     /// # Errors
     ///
@@ -443,8 +442,8 @@ impl Grid {
         }
     }
 
-    /// The first element of a chunk; `None` where there is no such chunk, or it begins past
-    /// 18446744073709551615. Of a chunk without a box it is [a question](Grid#questions).
+    /// Returns the first element of a chunk; `None` if there is no such chunk, or it begins past
+    /// 18446744073709551615. For a chunk without a box it is [a question](Grid#questions).
     ///
     /// # Errors
     ///
@@ -468,16 +467,16 @@ impl Grid {
         }
     }
 
-    /// A list that a question tells of a chunk.
+    /// Returns a list that a question answers for a chunk.
     fn of_chunk(&self, call: &str, chunk: &[u64]) -> Result<Option<Vec<u64>>> {
         questions::ask(self, call, &[("of", Member::List(chunk))], |reader| {
             reader.optional(Reader::list)
         })
     }
 
-    /// Whether a chunk is among those that are counted: below the grid's shape along each
-    /// dimension. Along a dimension without chunks all are. A list that has not one number for each
-    /// dimension is none of a chunk. It is [a question](Grid#questions).
+    /// Returns whether a chunk is among those that are counted: below the grid's shape along each
+    /// dimension. Along a dimension without chunks all are. A list without one number for each
+    /// dimension isn't a chunk. It is [a question](Grid#questions).
     ///
     /// # Errors
     ///
@@ -499,12 +498,12 @@ impl Grid {
         questions::ask(self, "chunk_indices_inbounds", &members, |reader| reader.truth())
     }
 
-    /// The box of elements that a box of chunks holds. That of an empty box is empty. `None` where
-    /// the first or the last chunk of the box has no box. It is [a question](Grid#questions).
+    /// Returns the box of elements that a box of chunks holds. For an empty box it is empty. `None`
+    /// if the first or the last chunk of the box has no box. It is [a question](Grid#questions).
     ///
     /// # Errors
     ///
-    /// [`Error::WrongLength`] where the box has another number of dimensions than the grid;
+    /// [`Error::WrongLength`] if the box has another number of dimensions than the grid;
     /// [`Error::OutOfMemory`].
     ///
     /// # Example
@@ -525,12 +524,12 @@ impl Grid {
         })
     }
 
-    /// The cover of a box of elements: the box of the chunks that hold some of them. That of an
-    /// empty box is empty. `None` where the first or the last element of the box lies in no chunk.
+    /// Returns the cover of a box of elements: the box of the chunks that hold some of them. For an
+    /// empty box it is empty. `None` if the first or the last element of the box lies in no chunk.
     ///
     /// # Errors
     ///
-    /// [`Error::WrongLength`] where the box has another number of dimensions than the grid;
+    /// [`Error::WrongLength`] if the box has another number of dimensions than the grid;
     /// [`Error::OutOfMemory`].
     ///
     /// # Example
@@ -557,7 +556,7 @@ impl Grid {
     ///
     /// # Errors
     ///
-    /// [`Error::WrongLength`] where `indices` or `chunks` haven't one number for each dimension and
+    /// [`Error::WrongLength`] if `indices` or `chunks` haven't one number for each dimension and
     /// each item of `found`; [`Error::OutOfMemory`].
     ///
     /// # Example
@@ -589,7 +588,7 @@ impl Grid {
     ///
     /// # Errors
     ///
-    /// [`Error::WrongLength`] where `indices`, `chunks` or `places` haven't one number for each
+    /// [`Error::WrongLength`] if `indices`, `chunks` or `places` haven't one number for each
     /// dimension and each item of `found`; [`Error::OutOfMemory`].
     ///
     /// # Example
@@ -620,12 +619,12 @@ impl Grid {
         Ok(())
     }
 
-    /// The box of each chunk, as its first element and its shape: [a batch](Grid#batches). There is
-    /// none where there is no such chunk, or it ends past 18446744073709551615.
+    /// Writes the box of each chunk, as its first element and its shape: [a batch](Grid#batches).
+    /// There is no box if there is no such chunk, or it ends past 18446744073709551615.
     ///
     /// # Errors
     ///
-    /// [`Error::WrongLength`] where `chunks`, `origins` or `shapes` haven't one number for each
+    /// [`Error::WrongLength`] if `chunks`, `origins` or `shapes` haven't one number for each
     /// dimension and each item of `found`; [`Error::OutOfMemory`].
     ///
     /// # Example
@@ -656,13 +655,13 @@ impl Grid {
         Ok(())
     }
 
-    /// The cover of each box of elements, which is given as its first index and its shape:
+    /// Writes the cover of each box of elements, which is given as its first index and its shape:
     /// [a batch](Grid#batches). A cover is its first chunk, and how many chunks it has along each
-    /// dimension. There is none where the first or the last element of the box lies in no chunk.
+    /// dimension. There is no cover if the first or the last element of the box lies in no chunk.
     ///
     /// # Errors
     ///
-    /// [`Error::NotABox`] where a box ends past 18446744073709551615; [`Error::WrongLength`] where
+    /// [`Error::NotABox`] if a box ends past 18446744073709551615; [`Error::WrongLength`] if
     /// a list hasn't one number for each dimension and each item of `found`;
     /// [`Error::OutOfMemory`].
     ///
@@ -702,15 +701,15 @@ impl Grid {
         Ok(())
     }
 
-    /// The plan of reading a box of elements: a part for each chunk that holds some of them, in
-    /// row-major order of the chunks. `None` where the first or the last element of the box lies in
-    /// no chunk. An empty box has a plan without parts.
+    /// Returns the plan of reading a box of elements: a part for each chunk that holds some of
+    /// them, in row-major order of the chunks. `None` if the first or the last element of the box
+    /// lies in no chunk. An empty box has a plan without parts.
     ///
     /// The plan is read page by page, so it takes little memory, however many parts it has.
     ///
     /// # Errors
     ///
-    /// [`Error::WrongLength`] where the box has another number of dimensions than the grid;
+    /// [`Error::WrongLength`] if the box has another number of dimensions than the grid;
     /// [`Error::OutOfMemory`].
     ///
     /// # Example
@@ -851,10 +850,10 @@ impl Grid {
     ///
     /// # Errors
     ///
-    /// [`Error::Refused`] where there is no grid of the new shape: one with another number of
-    /// dimensions, or one that listed edges don't fit, of which those of a `rectangular` grid add
-    /// up to the size, and those of a `rectilinear` one reach it. The library's words begin with
-    /// ``field `resize`: ``. [`Error::OutOfMemory`].
+    /// [`Error::Refused`] if there is no grid of the new shape. The shape has another number of
+    /// dimensions then, or listed edges don't fit it. Edges of a `rectangular` grid fit if they add
+    /// up to the size, and edges of a `rectilinear` grid if they reach it. The library's words
+    /// begin with ``field `resize`: ``. [`Error::OutOfMemory`].
     ///
     /// # Example
     ///
@@ -873,13 +872,13 @@ impl Grid {
         ChangedChunks::new(self, resize)
     }
 
-    /// How many runs of equal edges the chunks of a `rectilinear` grid are along a dimension,
-    /// counted from 0; `None` where there is no such dimension, or where all its chunks have one
-    /// edge. It is [a question](Grid#questions).
+    /// Returns how many runs of equal edges the chunks of a `rectilinear` grid are along a
+    /// dimension, counted from 0. `None` if there is no such dimension, or if all its chunks have
+    /// one edge. It is [a question](Grid#questions).
     ///
     /// # Errors
     ///
-    /// [`Error::Refused`] where the grid has another name; [`Error::OutOfMemory`].
+    /// [`Error::Refused`] if the grid has another name; [`Error::OutOfMemory`].
     ///
     /// # Example
     ///
@@ -900,14 +899,14 @@ impl Grid {
         questions::ask(self, "runs", &members, |reader| reader.optional(Reader::number))
     }
 
-    /// The `chunk_grid` as the library writes it for a `zarr.json`, as JSON text: with a name and a
-    /// configuration and nothing else, and listed edges of a `rectilinear` grid in runs.
+    /// Returns the `chunk_grid` as the library writes it for a `zarr.json`, as JSON text. It has a
+    /// name and a configuration and nothing else, and listed edges of a `rectilinear` grid in runs.
     /// [`chunk_grid`](Grid::chunk_grid) is the text that was given. It is
     /// [a question](Grid#questions).
     ///
     /// # Errors
     ///
-    /// [`Error::OutOfMemory`]; [`Error::TooLong`] where the text has more than 1073741823 bytes.
+    /// [`Error::OutOfMemory`]; [`Error::TooLong`] if the text has more than 1073741823 bytes.
     ///
     /// # Example
     ///
@@ -944,8 +943,8 @@ impl Grid {
         ChunkIndices::new(self)
     }
 
-    /// The boxes of all chunks that are counted, in row-major order. A chunk that ends past
-    /// 18446744073709551615 has no box, and is passed over.
+    /// Returns the boxes of all chunks that are counted, in row-major order. A chunk that ends past
+    /// 18446744073709551615 has no box, and is skipped.
     ///
     /// # Example
     ///

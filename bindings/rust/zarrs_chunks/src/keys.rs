@@ -31,7 +31,7 @@ impl Keys {
         let text =
             String::from_utf8(text).map_err(|_| Error::of_answer("keys that are no UTF-8"))?;
         let keys = Keys { text, offsets };
-        // Each key ends at or behind its beginning, and both lie between two characters.
+        // Each key ends at or after its beginning, and both lie between two characters.
         let are_keys = (0..keys.len()).all(|number| keys.get(number).is_some());
         let ends = (keys.offsets.first().copied(), keys.offsets.last().copied());
         if !are_keys || ends != (Some(0), Some(keys.text.len() as u64)) {
@@ -77,7 +77,7 @@ impl Keys {
         self.len() == 0
     }
 
-    /// The key with this number, counted from 0; `None` where there are no more than so many.
+    /// Returns the key with this number, counted from 0; `None` if there is no such key.
     ///
     /// # Example
     ///
@@ -144,7 +144,7 @@ impl Keys {
     }
 }
 
-/// How many bytes so many keys seldom exceed.
+/// How many bytes `count` keys seldom exceed.
 pub(crate) fn usual_length(count: usize, dimensionality: usize) -> usize {
     count.saturating_mul(dimensionality.saturating_mul(6).saturating_add(2))
 }

@@ -1,8 +1,7 @@
 //! Zarr chunk grids and chunk keys: in which chunk of an array an element lies, and under which key
 //! that chunk is stored.
 //!
-//! The calls are those of a proved library, which this crate links as one static archive and makes
-//! safe.
+//! This crate links a proved library as one static archive, and makes its calls safe.
 //!
 //! ```
 //! use zarrs_chunks::{ArraySubset, Encoding, Grid};
@@ -35,15 +34,19 @@
 //!
 //! # What is asked
 //!
-//! [`Grid`] answers for elements, chunks and boxes of them, and [`Encoding`] for keys: of one list
-//! by methods with the names that zarrs has, of many lists at once in batches, which write into
-//! slices of the caller's. [`Grid::parts`] is the plan of reading a box, [`Grid::tasks`] the tasks
-//! that rechunk an array or copy a region of it to another array, and the three `iter_` methods
-//! walk over all chunks; they read page by page. [`Grid::task_counts`] says how much tasks read and
-//! write, and which tasks are in a share; [`Grid::changed_chunks`] which chunks another shape of
-//! the array changes; [`byte_ranges`] which bytes of an uncompressed chunk hold a part.
-//! [`answer`] takes any question of the library as text. Some methods ask so themselves, and
-//! [say so](Grid#questions).
+//! [`Grid`] answers for elements, chunks and boxes of them, and [`Encoding`] for keys. For one list
+//! there are methods with the names that zarrs has. For many lists at once there are batches, which
+//! write into slices of the caller's.
+//!
+//! - [`Grid::parts`] is the plan of reading a box.
+//! - [`Grid::tasks`] gives the tasks that rechunk an array or copy a region of it to another array.
+//! - The three `iter_` methods walk over all chunks. These, the plan and the tasks are read page by
+//!   page.
+//! - [`Grid::task_counts`] says how much tasks read and write, and which tasks are in a share.
+//! - [`Grid::changed_chunks`] says which chunks another shape of the array changes.
+//! - [`byte_ranges`] says which bytes of an uncompressed chunk hold a part.
+//! - [`answer`] takes any question of the library as text. Some methods ask so themselves, and
+//!   [say so](Grid#questions).
 //!
 //! Sizes, indices, origins, shapes and places count elements. Chunks are numbered from 0 along each
 //! dimension. Numbers are `u64`; no sum or product wraps. An array may have any number of
@@ -51,13 +54,13 @@
 //!
 //! # Errors
 //!
-//! What the library refuses is told in its own words by an [`Error`]. Too little memory is one too,
-//! and nothing panics; `clone` alone takes memory as all of `std` does. After an error everything
-//! can be used as before.
+//! If the library refuses something, an [`Error`] has its own words. Too little memory is an error
+//! too, and nothing panics; `clone` alone takes memory as all of `std` does. After an error
+//! everything can be used as before.
 //!
 //! An item of an iterator may be an error, and is the last one then. `skip` of some versions of
 //! Rust, as 1.63, drops the item before the first one that it gives, and an error with it:
-//! [`nth`](Iterator::nth) tells it.
+//! [`nth`](Iterator::nth) returns it.
 //!
 //! # Threads
 //!
@@ -68,9 +71,9 @@
 //! # Linking
 //!
 //! The library is `libzarrs_chunks.a`, for 64-bit Linux on x86-64-v2 processors. The build looks
-//! for it in the folder that the environment variable `ZARRS_CHUNKS_LIB_DIR` names; where that
-//! isn't set, in `../../lib` beside the crate, as in a release, and then in `../../out/llvm`, where
-//! `bindings/build.py` puts it.
+//! for it in the folder that the environment variable `ZARRS_CHUNKS_LIB_DIR` names. If this isn't
+//! set, it looks in `../../lib` beside the crate, as in a release, and then in `../../out/llvm`,
+//! where `bindings/build.py` puts it.
 
 #![deny(unsafe_op_in_unsafe_fn, missing_docs)]
 #![deny(unsafe_code)]

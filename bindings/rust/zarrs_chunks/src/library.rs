@@ -5,8 +5,8 @@ use crate::calls;
 use crate::error::{Error, Result};
 use crate::ffi;
 
-/// The version of the library's calls that this crate is for, as [`abi_version`] tells that of the
-/// library.
+/// The version of the library's calls that this crate is for. [`abi_version`] returns the version
+/// that the library has.
 ///
 /// # Example
 ///
@@ -19,7 +19,7 @@ pub const ABI_VERSION: i32 = ffi::ABI_VERSION;
 ///
 /// Threads of `std` have 2 MiB, and may be given less by
 /// [`Builder::stack_size`](std::thread::Builder::stack_size). Most of this is for metadata that
-/// nest deep; what holds nothing but a grid or an encoding needs a quarter of it.
+/// nest deep; metadata that hold nothing but a grid or an encoding need a quarter of it.
 ///
 /// # Example
 ///
@@ -34,8 +34,8 @@ pub const ABI_VERSION: i32 = ffi::ABI_VERSION;
 /// ```
 pub const STACK: usize = ffi::STACK;
 
-/// The version of the calls that the linked library has. It is to be [`ABI_VERSION`]: with another
-/// one, nothing is made, and the error is [`Error::WrongVersion`].
+/// Returns the version of the calls that the linked library has. It must be [`ABI_VERSION`]: with
+/// another one, nothing is made, and the error is [`Error::WrongVersion`].
 ///
 /// # Example
 ///
@@ -47,7 +47,8 @@ pub fn abi_version() -> i32 {
     calls::abi_version()
 }
 
-/// The version of the linked library, as text: that of this crate, where both are of one release.
+/// Returns the version of the linked library, as text. It is this crate's version if both are of
+/// one release.
 ///
 /// # Errors
 ///

@@ -4,7 +4,7 @@ use std::fmt;
 
 use crate::error::{Error, Result};
 
-/// A list of so many zeros.
+/// A list of `count` zeros.
 pub(crate) fn zeros<T: Copy + Default>(count: usize) -> Result<Vec<T>> {
     let mut items = Vec::new();
     items.try_reserve_exact(count).map_err(|_| Error::OutOfMemory)?;
@@ -19,14 +19,14 @@ pub(crate) fn copy_of<T: Copy>(items: &[T]) -> Result<Vec<T>> {
     Ok(copy)
 }
 
-/// Puts items behind those of a list.
+/// Appends items to a list.
 pub(crate) fn append<T: Copy>(list: &mut Vec<T>, items: &[T]) -> Result<()> {
     list.try_reserve(items.len()).map_err(|_| Error::OutOfMemory)?;
     list.extend_from_slice(items);
     Ok(())
 }
 
-/// Puts an item behind those of a list.
+/// Appends an item to a list.
 pub(crate) fn push<T>(list: &mut Vec<T>, item: T) -> Result<()> {
     list.try_reserve(1).map_err(|_| Error::OutOfMemory)?;
     list.push(item);
@@ -41,7 +41,7 @@ pub(crate) fn text_of(text: &str) -> Result<String> {
     Ok(copy)
 }
 
-/// Puts a piece behind a text.
+/// Appends a piece to a text.
 pub(crate) fn add(text: &mut String, piece: &str) -> Result<()> {
     text.try_reserve(piece.len()).map_err(|_| Error::OutOfMemory)?;
     text.push_str(piece);
@@ -53,13 +53,13 @@ pub(crate) fn add(text: &mut String, piece: &str) -> Result<()> {
 pub(crate) struct Text(String);
 
 impl Text {
-    /// Puts a piece behind the text.
+    /// Appends a piece to the text.
     pub(crate) fn add(&mut self, piece: fmt::Arguments<'_>) -> Result<()> {
         // What is written here fails for no other reason.
         fmt::write(self, piece).map_err(|_| Error::OutOfMemory)
     }
 
-    /// Puts a list of numbers behind the text, as JSON.
+    /// Appends a list of numbers to the text, as JSON.
     pub(crate) fn add_list(&mut self, numbers: &[u64]) -> Result<()> {
         self.add(format_args!("["))?;
         for (position, number) in numbers.iter().enumerate() {

@@ -1,10 +1,10 @@
-//! Where an iterator is that reads its items page by page.
+//! The place of an iterator that reads its items page by page.
 
-/// So many numbers, or texts, a page holds at most, and so many items.
+/// How many numbers, or texts, a page holds at most, and how many items.
 const MOST_NUMBERS: usize = 1 << 16;
 const MOST_ITEMS: usize = 1 << 12;
-/// How many items the first page has, and the first one behind items that are left out. Each
-/// further page has twice as many as the one before it.
+/// How many items the first page has, and the first one after items that are left out. Each further
+/// page has twice the items of the one before it.
 const FIRST_ITEMS: usize = 16;
 
 /// Which items an iterator has given, which its page holds, and which are to come.
@@ -12,18 +12,18 @@ const FIRST_ITEMS: usize = 16;
 pub(crate) struct Pages {
     /// How many items there are in all.
     in_all: u64,
-    /// The number of the first item behind the page.
+    /// The number of the first item after the page.
     behind: u64,
     /// How many items the page holds, and how many of these were given.
     held: usize,
     given: usize,
-    /// How many items the next page is to have, and how many a page has at most.
+    /// How many items the next page must have, and how many a page has at most.
     room: usize,
     most: usize,
 }
 
 impl Pages {
-    /// The beginning of so many items, each of so many numbers.
+    /// The beginning of `in_all` items, each of `numbers` numbers.
     pub(crate) fn new(in_all: u64, numbers: usize) -> Pages {
         let most = (MOST_NUMBERS / numbers.max(1)).clamp(1, MOST_ITEMS);
         Pages { in_all, behind: 0, held: 0, given: 0, room: FIRST_ITEMS.min(most), most }
@@ -39,7 +39,7 @@ impl Pages {
         (self.in_all - self.behind).saturating_add((self.held - self.given) as u64)
     }
 
-    /// Which item of the page is given next; `None` where the page holds no further one.
+    /// Which item of the page is given next; `None` if the page holds no further one.
     pub(crate) fn take(&mut self) -> Option<usize> {
         if self.given == self.held {
             return None;
@@ -48,7 +48,7 @@ impl Pages {
         Some(self.given - 1)
     }
 
-    /// The next page: the number of its first item, and how many items it is to have. `None` where
+    /// The next page: the number of its first item, and how many items it must have. `None` if
     /// there is no further item.
     pub(crate) fn wanted(&self) -> Option<(u64, usize)> {
         let left = self.in_all - self.behind;
@@ -56,20 +56,20 @@ impl Pages {
         (count > 0).then_some((self.behind, count))
     }
 
-    /// Goes to the page that was wanted, with so many items: fewer than were wanted where some
-    /// numbers have no item.
+    /// Goes to the page of `wanted` items, which has `held` items. These are fewer if some numbers
+    /// have no item.
     pub(crate) fn turn(&mut self, wanted: usize, held: usize) {
         self.behind = self.behind.saturating_add(wanted as u64).min(self.in_all);
         (self.held, self.given) = (held, 0);
         self.room = self.room.saturating_mul(2).min(self.most);
     }
 
-    /// Lets the next page have so many items, where that isn't more than a page has at most.
+    /// Lets the next page have `room` items, if that isn't more than a page has at most.
     pub(crate) fn limit(&mut self, room: usize) {
         self.room = room.clamp(1, self.most);
     }
 
-    /// Leaves so many items out.
+    /// Leaves `count` items out.
     pub(crate) fn skip(&mut self, count: usize) {
         let held = self.held - self.given;
         if count <= held {
@@ -81,19 +81,19 @@ impl Pages {
         self.room = FIRST_ITEMS.min(self.most);
     }
 
-    /// Goes to the end, behind all items.
+    /// Goes to the end, after all items.
     pub(crate) fn end(&mut self) {
         self.behind = self.in_all;
         (self.held, self.given) = (0, 0);
     }
 }
 
-/// How many items an iterator gives, where it may end with an error before its end.
+/// How many items an iterator gives, if it may end with an error before its end.
 pub(crate) fn size_hint(left: u64) -> (usize, Option<usize>) {
     (usize::from(left > 0), usize::try_from(left).ok())
 }
 
-/// How many lists of numbers there are below these sizes, and 18446744073709551615 where there are
+/// How many lists of numbers there are below these sizes, or 18446744073709551615 if there are
 /// more.
 pub(crate) fn count_of(sizes: &[u64]) -> u64 {
     sizes.iter().fold(1, |count: u64, size| count.saturating_mul(*size))

@@ -36,9 +36,9 @@ pub struct Part {
     pub chunk: Vec<u64>,
     /// The key of the chunk.
     pub key: String,
-    /// The part's first element, counted from that of the chunk.
+    /// The part's first element, counted from the chunk's first element.
     pub in_chunk: Vec<u64>,
-    /// The part's first element, counted from that of the box.
+    /// The part's first element, counted from the box's first element.
     pub in_selection: Vec<u64>,
     /// How many elements the part has along each dimension.
     pub shape: Vec<u64>,
@@ -47,11 +47,11 @@ pub struct Part {
 /// The parts of a plan, in row-major order of the chunks: [`Grid::parts`] makes it.
 ///
 /// They are read page by page, so whatever the plan, there are at most some thousands in memory. A
-/// page makes the grid anew: of a grid with very many listed edges a page takes milliseconds.
+/// page makes the grid again, which takes milliseconds if it has very many listed edges.
 /// [`nth`](Iterator::nth), and so `skip` and `step_by`, takes no time for the parts that are left
 /// out.
 ///
-/// An item is an error where there is too little memory for it. It is the last item then.
+/// An item is an error if there is too little memory for it. It is the last item then.
 ///
 /// # Example
 ///
@@ -98,8 +98,8 @@ impl<'a> Parts<'a> {
         Ok(told.is_found.then_some(Parts { grid, encoding, subset, pages, page }))
     }
 
-    /// How many parts are left to give. A plan of more than 18446744073709551615 parts is given up
-    /// to that one.
+    /// Returns how many parts are left to give. A plan of more than 18446744073709551615 parts is
+    /// given up to that one.
     ///
     /// # Example
     ///
@@ -139,7 +139,7 @@ impl<'a> Parts<'a> {
         self.len() == 0
     }
 
-    /// Goes to the page with so many parts from this one on.
+    /// Goes to the page with `wanted` parts from the part `first` on.
     fn turn(&mut self, first: u64, wanted: usize) -> Result<()> {
         let (told, page) = read(self.grid, self.encoding, self.subset, first, wanted)?;
         if told.count != wanted || page.keys.len() != wanted {
@@ -206,8 +206,8 @@ impl fmt::Debug for Parts<'_> {
     }
 }
 
-/// So many parts of a plan from the one with this number on, or as many as follow, and what the
-/// library tells of them.
+/// `room` parts of a plan from the part `first` on, or fewer if fewer follow, and what the library
+/// says of them.
 fn read(
     grid: &Grid,
     encoding: &Encoding,

@@ -21,8 +21,8 @@ pub(crate) enum Member<'a> {
     Array(&'a Grid, &'a str),
 }
 
-/// What is read of the answer to a question about a grid. A call without an answer is told by the
-/// library's words.
+/// What is read of the answer to a question about a grid. If a call has no answer, the error has
+/// the library's words.
 pub(crate) fn ask<T>(
     grid: &Grid,
     call: &str,
@@ -37,7 +37,7 @@ pub(crate) fn line(grid: &Grid, call: &str, members: &[(&str, Member<'_>)]) -> R
     line_within(grid, call, members, (answers::USUAL, answers::LONGEST))
 }
 
-/// The same, where there is room for so many bytes at first, and for so many at most.
+/// The same, with room for `room.0` bytes at first, and for `room.1` bytes at most.
 pub(crate) fn line_within(
     grid: &Grid,
     call: &str,
@@ -47,7 +47,7 @@ pub(crate) fn line_within(
     answered(answers::line_within(question(grid, call, members)?.as_str(), room)?)
 }
 
-/// The answer to a question that is no grid's.
+/// The answer to a question that isn't about a grid.
 pub(crate) fn answer_to(question: &str) -> Result<String> {
     answered(answers::line_within(question, (answers::USUAL, answers::LONGEST))?)
 }

@@ -18,15 +18,16 @@ const ESCAPES: [(&str, char); 8] = [
     ("\\t", '\t'),
 ];
 
-/// Reads the answer to a question about a grid, piece by piece. What isn't the piece that is to
-/// come is an error.
+/// Reads the answer to a question about a grid, piece by piece. Any other piece than the one that
+/// must come is an error.
 pub(crate) struct Reader<'a> {
     rest: &'a str,
     dimensionality: usize,
 }
 
 impl Reader<'_> {
-    /// What is read of an answer, which is to have nothing else. Lists have so many numbers.
+    /// What is read of an answer, which must have nothing else. Lists have `dimensionality`
+    /// numbers.
     pub(crate) fn read<T>(
         line: &str,
         dimensionality: usize,
@@ -40,8 +41,8 @@ impl Reader<'_> {
         }
     }
 
-    /// The answer of a walk, whose items are read one by one. Tells how many there are, and whether
-    /// more follow.
+    /// Reads the answer of a walk, item by item. Returns how many items there are, and whether more
+    /// follow.
     pub(crate) fn items(
         &mut self,
         item: impl FnMut(&mut Self) -> Result<()>,
@@ -54,7 +55,7 @@ impl Reader<'_> {
         Ok((count, has_more))
     }
 
-    /// A list, whose items are read one by one. Tells how many there are.
+    /// Reads a list, item by item. Returns how many items there are.
     pub(crate) fn each(&mut self, mut item: impl FnMut(&mut Self) -> Result<()>) -> Result<usize> {
         self.expect("[")?;
         let mut count = 0;
@@ -68,7 +69,7 @@ impl Reader<'_> {
         Ok(count)
     }
 
-    /// What is read, or `None` where there is none.
+    /// What is read, or `None` if `null` follows.
     pub(crate) fn optional<T>(
         &mut self,
         read: impl FnOnce(&mut Self) -> Result<T>,
@@ -107,7 +108,7 @@ impl Reader<'_> {
         Ok(items)
     }
 
-    /// A list with a number for each dimension. Its numbers are put behind others.
+    /// Reads a list with a number for each dimension, and appends its numbers to others.
     pub(crate) fn list_onto(&mut self, numbers: &mut Vec<u64>) -> Result<()> {
         let count = self.each(|reader| push(numbers, reader.number()?))?;
         if count != self.dimensionality {
@@ -182,7 +183,7 @@ impl Reader<'_> {
         u16::from_str_radix(digits, 16).map_err(|_| no_answer())
     }
 
-    /// Reads this text, which is to follow.
+    /// Reads this text, which must follow.
     pub(crate) fn expect(&mut self, text: &str) -> Result<()> {
         if self.reads(text) {
             return Ok(());

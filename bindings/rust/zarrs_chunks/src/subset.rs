@@ -8,7 +8,7 @@ use crate::memory::{copy_of, zeros};
 /// A box: a range of numbers along each dimension. It is a box of elements, or one of chunks.
 ///
 /// Its start and its shape have as many numbers each, and no range ends past 18446744073709551615.
-/// A box without elements is one that has a range of none; without dimensions there is no such box.
+/// A box is empty if one of its ranges is empty; a box without dimensions isn't.
 ///
 /// # Example
 ///
@@ -26,11 +26,11 @@ pub struct ArraySubset {
 }
 
 impl ArraySubset {
-    /// The box that begins at these numbers, with so many numbers along each dimension.
+    /// Returns the box that begins at `start` and has `shape` numbers along each dimension.
     ///
     /// # Errors
     ///
-    /// [`Error::WrongLength`] where the two lists aren't of one length; [`Error::NotABox`] where an
+    /// [`Error::WrongLength`] if the two lists aren't of one length; [`Error::NotABox`] if an
     /// end lies past 18446744073709551615.
     ///
     /// # Example
@@ -84,7 +84,7 @@ impl ArraySubset {
         subset.map_err(|_| Error::of_answer("a box that is none"))
     }
 
-    /// The same of numbers of which one half is the start, and the other the shape.
+    /// The same for numbers of which one half is the start, and the other the shape.
     pub(crate) fn of_numbers(numbers: &[u64]) -> Result<ArraySubset> {
         let (start, shape) = numbers.split_at(numbers.len() / 2);
         ArraySubset::of_answer(copy_of(start)?, copy_of(shape)?)

@@ -36,7 +36,7 @@ impl Kind {
         }
     }
 
-    /// Reads an item, and puts its numbers behind others.
+    /// Reads an item, and appends its numbers to others.
     fn read(self, reader: &mut Reader<'_>, numbers: &mut Vec<u64>) -> Result<()> {
         match self {
             Kind::Chunk => reader.list_onto(numbers),
@@ -95,7 +95,7 @@ impl<'a> Walk<'a> {
         Some(item)
     }
 
-    /// Goes to the page of the items of so many chunks from this one on.
+    /// Goes to the page of the items of `wanted` chunks from the chunk `first` on.
     fn turn(&mut self, first: u64, wanted: usize) -> Result<()> {
         let (kind, page) = (self.kind, &mut self.page);
         page.clear();
@@ -103,7 +103,7 @@ impl<'a> Walk<'a> {
         let (held, _) = questions::ask(self.grid, kind.call(), &members, |reader| {
             reader.items(|reader| kind.read(reader, page))
         })?;
-        // Chunks without a box are passed over where boxes are asked for.
+        // Chunks without a box are skipped if boxes are asked for.
         if held > wanted || (kind == Kind::Chunk && held < wanted) {
             return Err(Error::of_answer("another number of items than there are"));
         }
@@ -121,12 +121,12 @@ impl<'a> Walk<'a> {
 /// it.
 ///
 /// They are read page by page, so there are at most some thousands in memory. A page makes the grid
-/// anew: of a grid with very many listed edges a page takes milliseconds.
+/// again, which takes milliseconds if it has very many listed edges.
 /// [`nth`](Iterator::nth), and so `skip` and `step_by`, takes no time for the chunks that are left
 /// out.
 ///
-/// An item is an error where there is too little memory for it, or where the text of the grid nests
-/// 127 deep: in a question it is one deeper than JSON is read. It is the last item then.
+/// An item is an error if there is too little memory for it, or if the text of the grid nests 127
+/// deep. In a question this text is one deeper than JSON is read. The error is the last item.
 ///
 /// # Example
 ///
@@ -149,8 +149,8 @@ impl<'a> ChunkIndices<'a> {
         ChunkIndices { walk: Walk::new(grid, Kind::Chunk) }
     }
 
-    /// How many chunks are left to give. Of a grid with more than 18446744073709551615 chunks so
-    /// many are given.
+    /// Returns how many chunks are left to give. If a grid has more than 18446744073709551615
+    /// chunks, that number of them are given.
     ///
     /// # Example
     ///
@@ -216,9 +216,9 @@ impl fmt::Debug for ChunkIndices<'_> {
 /// The boxes of all chunks of a grid that are counted, in row-major order:
 /// [`Grid::iter_chunk_subsets`] makes it.
 ///
-/// A chunk that ends past 18446744073709551615 has no box, and is passed over. What is said of
-/// memory, time and errors at [`ChunkIndices`] holds here too, but for `nth`, which goes through
-/// the boxes that it leaves out.
+/// A chunk that ends past 18446744073709551615 has no box, and is skipped. What [`ChunkIndices`]
+/// says of memory, time and errors holds here too, except for `nth`, which goes through the boxes
+/// that it leaves out.
 ///
 /// # Example
 ///
