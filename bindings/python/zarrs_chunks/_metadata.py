@@ -44,8 +44,8 @@ class Metadata:
 
 def json_text(argument: str, given: Any) -> bytes:
     """Compact JSON, as bytes, of dicts, lists, tuples, arrays, texts, numbers, truth values and None. Raises TypeError for what JSON has no form
-    for. Raises ValueError for a value that JSON can't say. This is a float that is no number, a text with half a surrogate pair, or a nesting without
-    end or of more items than 4194304.
+    for. Raises ValueError for a value that JSON can't say. This is a float that isn't finite, a text with half a surrogate pair, a nesting of
+    more than 100, or more items than 4194304.
 
     >>> json_text("chunk_grid", {"chunk_shape": (np.int64(2), 3)})
     b'{"chunk_shape":[2,3]}'
