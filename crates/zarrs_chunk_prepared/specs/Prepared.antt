@@ -54,7 +54,7 @@ pub record IsTableOf (d : Dimension) (t : Table) : Type 0 where
   -- the first run begins at 0
   pub first_start : 0 < length t.starts → slice_index_or t.starts 0 0 ≡ 0
   pub first_chunk : 0 < length t.starts → slice_index_or t.chunks 0 0 ≡ 0
-  -- the others begin later
+  -- the others don't begin before the run that they follow
   pub starts_rise : IsNonDecreasing t.starts
   pub chunks_rise : IsNonDecreasing t.chunks
   -- no edge is 0

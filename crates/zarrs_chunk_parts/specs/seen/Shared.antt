@@ -9,7 +9,7 @@ use Rattle.zarrs_chunk_base.specs.Greatest.{greatest}
 abbrev pub distances : List ℕ → List ℕ → List ℕ
 distances from to = map (λ p. p.1 - p.0) (zip from to)
 
--- how many indices each range from an origin shares with one from a start, of those that are at most the greatest number
+-- how many indices each range from an origin shares with one from a start, of the indices below the greatest number
 abbrev pub shared_sizes : (origin edges start sizes : List ℕ) → List ℕ
 shared_sizes origin edges start sizes =
     map (λ p. min (p.0.0 + p.0.1) (min (p.1.0 + p.1.1) greatest) - max p.0.0 p.1.0) (zip (zip origin edges) (zip start sizes))
