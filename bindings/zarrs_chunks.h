@@ -10,9 +10,9 @@
  * run in several threads at once.
  *
  * Each call but zarrs_abi_version returns ZARRS_OK or one of the codes below. After ZARRS_OK and ZARRS_SHORT_BUFFER, the rest of a buffer is as it
- * was: what follows a text, the numbers of a grid or an encoding, or the parts that are written. After any other code, the buffers that are written
- * to hold anything, but nothing is written outside of them. If a call still says something of its refusal, its comment says so. zarrs_code_words
- * says in words what a code is, zarrs_grid_fault and zarrs_encoding_fault what metadata lack.
+ * was. The rest is what follows a text, the numbers of a grid or an encoding, or the parts that are written. After any other code, the buffers that
+ * are written to hold anything, but nothing is written outside of them. If a call still says something of its refusal, its comment says so.
+ * zarrs_code_words says in words what a code is, zarrs_grid_fault and zarrs_encoding_fault what metadata lack.
  *
  * If several things are wrong, a call reports the first of them, in this order, which is the same for all calls:
  *
